@@ -1,0 +1,9 @@
+use borrow.Author.Needs.{needs}
+use Rattle.endian.proofs.ordered16.Statement.{statement}
+use Rattle.endian.proofs.ordered16.Tie as tie
+
+returns-2 : tie.Need-returns-2
+returns-2 c = rw (c .before .enum-told2 .given .1) (c .swap16 .ensures)
+
+pub ordered16-spec : {M : Type 1} → statement M
+ordered16-spec = tie.close (tie.spec (λ c. search needs) (λ c. search needs) (λ c κs. search needs) (λ c. search needs) returns-2)

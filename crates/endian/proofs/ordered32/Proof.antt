@@ -1,0 +1,9 @@
+use borrow.Author.Needs.{needs}
+use Rattle.endian.proofs.ordered32.Statement.{statement}
+use Rattle.endian.proofs.ordered32.Tie as tie
+
+returns-2 : tie.Need-returns-2
+returns-2 c = rw (c .before .enum-told2 .given .1) (c .swap32 .ensures)
+
+pub ordered32-spec : {M : Type 1} → statement M
+ordered32-spec = tie.close (tie.spec (λ c. search needs) (λ c. search needs) (λ c κs. search needs) (λ c. search needs) returns-2)

@@ -1,0 +1,13 @@
+use native.Mathlib.Omega.{arith}
+use Rattle.endian.proofs.Written.{bytes-ordered}
+use borrow.Author.Needs.{needs}
+use Rattle.endian.proofs.put64.Statement.{statement}
+use Rattle.endian.proofs.put64.Tie as tie
+
+returns : tie.Need-returns
+returns c =
+    let a = c .before .before .before .before .before .before .args in
+    cc (bytes-ordered (a .order) 8 (a .n) (omega arith))
+
+pub put64-spec : {M : Type 1} → statement M
+put64-spec = tie.close (tie.spec (λ c κs. search needs) (λ c κs. search needs) (λ c. search needs) returns)

@@ -1,0 +1,22 @@
+use denote.Ref.{now}
+use Rattle.endian.proofs.Written.{written-add}
+use borrow.Author.Needs.{needs}
+use Rattle.endian.proofs.put_le64.Statement.{statement}
+use Rattle.endian.proofs.put_le64.Tie as tie
+
+returns : tie.Need-returns
+returns c =
+    let a = c .before .before .before .before .before .before .before .before .before .args in
+    cc (written-add 4 4 (now (a .d)) (a .o) (a .n))
+
+pub put-le64-spec : {M : Type 1} → statement M
+put-le64-spec =
+    tie.close
+    (tie.spec
+    (λ c. search needs)
+    (λ c κs. search needs)
+    (λ c. search needs)
+    (λ c. search needs)
+    (λ c κs. search needs)
+    (λ c. search needs)
+    returns)

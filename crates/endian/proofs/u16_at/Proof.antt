@@ -1,0 +1,18 @@
+use mathlib.Core.Path.{sym, ap, _∙_}
+use Rattle.endian.proofs.Laws.{faultless, answered, refused}
+use Rattle.endian.specs.declared.Got16.the-variants.{Value, Refused}
+use borrow.Author.Needs.{needs}
+use Rattle.endian.proofs.u16_at.Statement.{statement}
+use Rattle.endian.proofs.u16_at.Tie as tie
+
+u16-in-requires : tie.Need-u16-in-requires
+u16-in-requires c κs = faultless _ _ 2 _ (c .before .before .range-fault .ensures) (c .if1 .taken)
+
+returns : tie.Need-returns
+returns c = ap Value (c .u16-in .ensures) ∙ answered _ _ _ Refused (c .before .before .before .range-fault .ensures) (c .before .if1 .taken)
+
+returns-2 : tie.Need-returns-2
+returns-2 c = refused _ _ _ Refused (c .before .before .range-fault .ensures) (c .if1 .left)
+
+pub u16-at-spec : {M : Type 1} → statement M
+u16-at-spec = tie.close (tie.spec (λ c κs. search needs) u16-in-requires returns returns-2)

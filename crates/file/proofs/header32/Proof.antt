@@ -1,0 +1,46 @@
+use Rattle.endian.specs.declared.Class.the-variants.{Elf32}
+use Rattle.file.proofs.Same.{header-at}
+use borrow.Author.Needs.{needs}
+use Rattle.file.proofs.header32.Statement.{statement}
+use Rattle.file.proofs.header32.Tie as tie
+
+returns : tie.Need-returns
+returns c =
+    header-at Elf32 _ _
+    (c .before .before .before .before .before .before .before .before .before .before .before .before .u16-in .ensures)
+    (c .before .before .before .before .before .before .before .before .before .before .before .u16-in2 .ensures)
+    (c .before .before .before .before .before .before .before .before .before .before .u32-in .ensures)
+    (c .before .before .before .before .before .before .before .before .before .u32-in2 .ensures)
+    (c .before .before .before .before .before .before .before .before .u32-in3 .ensures)
+    (c .before .before .before .before .before .before .before .u32-in4 .ensures)
+    (c .before .before .before .before .before .before .u32-in5 .ensures)
+    (c .before .before .before .before .before .u16-in3 .ensures)
+    (c .before .before .before .before .u16-in4 .ensures)
+    (c .before .before .before .u16-in5 .ensures)
+    (c .before .before .u16-in6 .ensures)
+    (c .before .u16-in7 .ensures)
+    (c .u16-in8 .ensures)
+
+pub header32-spec : {M : Type 1} → statement M
+header32-spec =
+    tie.close
+    (tie.spec
+    (λ c. search needs)
+    (λ c. search needs)
+    (λ c κs. search needs)
+    (λ c κs. search needs)
+    (λ c κs. search needs)
+    (λ c κs. search needs)
+    (λ c. search needs)
+    (λ c κs. search needs)
+    (λ c. search needs)
+    (λ c κs. search needs)
+    (λ c. search needs)
+    (λ c κs. search needs)
+    (λ c κs. search needs)
+    (λ c κs. search needs)
+    (λ c κs. search needs)
+    (λ c κs. search needs)
+    (λ c κs. search needs)
+    (λ c κs. search needs)
+    returns)

@@ -1,0 +1,43 @@
+use Rattle.endian.specs.declared.Class.the-variants.{Elf64}
+use Rattle.file.proofs.Same.{header-at}
+use borrow.Author.Needs.{needs}
+use Rattle.file.proofs.header64.Statement.{statement}
+use Rattle.file.proofs.header64.Tie as tie
+
+returns : tie.Need-returns
+returns c =
+    header-at Elf64 _ _
+    (c .before .before .before .before .before .before .before .before .before .before .before .before .u16-in .ensures)
+    (c .before .before .before .before .before .before .before .before .before .before .before .u16-in2 .ensures)
+    (c .before .before .before .before .before .before .before .before .before .before .u32-in .ensures)
+    (c .before .before .before .before .before .before .before .before .before .u64-in .ensures)
+    (c .before .before .before .before .before .before .before .before .u64-in2 .ensures)
+    (c .before .before .before .before .before .before .before .u64-in3 .ensures)
+    (c .before .before .before .before .before .before .u32-in2 .ensures)
+    (c .before .before .before .before .before .u16-in3 .ensures)
+    (c .before .before .before .before .u16-in4 .ensures)
+    (c .before .before .before .u16-in5 .ensures)
+    (c .before .before .u16-in6 .ensures)
+    (c .before .u16-in7 .ensures)
+    (c .u16-in8 .ensures)
+
+pub header64-spec : {M : Type 1} → statement M
+header64-spec =
+    tie.close
+    (tie.spec
+    (λ c. search needs)
+    (λ c. search needs)
+    (λ c κs. search needs)
+    (λ c κs. search needs)
+    (λ c κs. search needs)
+    (λ c κs. search needs)
+    (λ c κs. search needs)
+    (λ c κs. search needs)
+    (λ c κs. search needs)
+    (λ c κs. search needs)
+    (λ c κs. search needs)
+    (λ c κs. search needs)
+    (λ c κs. search needs)
+    (λ c κs. search needs)
+    (λ c κs. search needs)
+    returns)

@@ -1,0 +1,25 @@
+-- Entries of a table and ranges of the data.
+-- entryFault size len i   entry i of a table of len bytes whose entries are size bytes wide
+-- countOf size len        how many whole entries such a table has: as many as a walk visits
+-- rangeOf o n             the n bytes at o
+-- Assumes nothing.
+use Prim.Native.Nat.{ℕ, _+_, _*_, _/_, _^_}
+use mathlib.Core.Bool.{cond}
+use lib.Dec.{leb, ltb, eqb}
+use Rattle.endian.specs.declared.Fault.{Fault}
+use Rattle.endian.specs.Range.{faulty, noFault}
+use Rattle.parse.specs.declared.Range.{Range}
+
+-- an empty table (5); a product that overflows (12); a start beyond the end (5); an entry that is cut off (11)
+unfoldable pub entryFault : ℕ → ℕ → ℕ → Fault
+entryFault size len i =
+    cond (eqb len 0) (faulty 5)
+    (cond (leb (2 ^ 64) (i * size)) (faulty 12)
+    (cond (ltb len (i * size)) (faulty 5)
+    (cond (leb (i * size + size) len) noFault (faulty 11))))
+
+unfoldable pub countOf : ℕ → ℕ → ℕ
+countOf size len = cond (eqb size 0) 0 (len / size)
+
+abbrev pub rangeOf : ℕ → ℕ → Range
+rangeOf o n = record { from = o; to = o + n }

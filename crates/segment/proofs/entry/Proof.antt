@@ -1,0 +1,31 @@
+use native.Mathlib.Omega.{arith}
+use mathlib.Core.Path.{sym, ap, _∙_}
+use Rattle.endian.proofs.Laws.{answered, refused}
+use Rattle.parse.proofs.Laws.{whole}
+use Rattle.segment.specs.declared.GotProgramHeader.the-variants.{Is, Refused}
+use borrow.Author.Needs.{needs}
+use Rattle.segment.proofs.entry.Statement.{statement}
+use Rattle.segment.proofs.entry.Tie as tie
+
+mul-segment-in : tie.Need-mul-segment-in
+mul-segment-in c = rw (c .before .before .before .size-of .ensures) (omega (arith, whole _ _ _ _ (c .before .before .fault-in .ensures) (c .if1 .taken)))
+
+segment-in-requires : tie.Need-segment-in-requires
+segment-in-requires c κs = rw (c .before .before .before .size-of .ensures) (omega (arith, whole _ _ _ _ (c .before .before .fault-in .ensures) (c .if1 .taken)))
+
+returns : tie.Need-returns
+returns c = ap Is (rw (c .before .before .before .before .size-of .ensures) at (c .segment-in .ensures)) ∙ answered _ _ _ Refused (c .before .before .before .fault-in .ensures) (c .before .if1 .taken)
+
+returns-2 : tie.Need-returns-2
+returns-2 c = refused _ _ _ Refused (c .before .before .fault-in .ensures) (c .if1 .left)
+
+pub entry-spec : {M : Type 1} → statement M
+entry-spec =
+    tie.close
+    (tie.spec
+    (λ c κs. search needs)
+    (λ c κs. search needs)
+    mul-segment-in
+    segment-in-requires
+    returns
+    returns-2)
