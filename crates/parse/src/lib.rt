@@ -4,8 +4,7 @@ ghost use mathlib.Core.Path.{_≡_};
 ghost use Prim.Native.Nat.{_+_, _*_, _^_, _≤_};
 ghost use lib.Dec.{leb};
 ghost use lib.ListN.{length};
-ghost use Rattle.endian.specs.Range.{faultAt, answer};
-ghost use Rattle.parse.specs.Entry.{entryFault, countOf, rangeOf};
+ghost use Rattle.parse.specs.Entry.{entryFault, countOf, rangeAt};
 ghost use Rattle.parse.specs.First.{firstKind};
 use endian::Fault;
 use endian::Order;
@@ -78,7 +77,7 @@ pub fn count(size: usize, len: usize) -> usize
 
 // The n bytes at o of data of len bytes.
 pub fn range_at(len: usize, o: usize, n: usize) -> GotRange
-    ensures { λ r. ⌜ r ≡ answer (faultAt len o n) (GotRange.Is (rangeOf o n)) GotRange.Refused ⌝ }
+    ensures { λ r. ⌜ r ≡ rangeAt len o n ⌝ }
 {
     let f = endian::range_fault(len, o, n);
     if f.number == 0 {
