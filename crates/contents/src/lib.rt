@@ -62,7 +62,7 @@ pub fn section_at(d: &[u8], i: usize) -> GotSectionHeader
 }
 
 // Program header i, likewise.
-fn segment_in(elf: Elf, d: &[u8], i: usize) -> GotProgramHeader
+pub fn segment_in(elf: Elf, d: &[u8], i: usize) -> GotProgramHeader
     requires { ⌜ Whole (now d) elf ⌝ }
     ensures { λ r. ⌜ r ≡ segmentIn (now (d .entry)) elf i ⌝ }
 {

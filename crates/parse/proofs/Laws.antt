@@ -90,3 +90,9 @@ first-bounds p (suc n) i k e = pick (p i) (first-bounds p n (i + 1) k) e
         → (i ≤ k) × (k < i + suc n)
     pick true f q = let z : i ≡ k = cc in omega arith
     pick false f q = let h = f q in omega arith
+
+-- a test that no number passes
+pub first-never : (p : ℕ → Bool) (n i : ℕ) → ((k : ℕ) → p k ≡ false) → firstFrom p n i ≡ Nothing
+unfolding firstFrom
+first-never p zero i h = refl
+first-never p (suc n) i h = rw (h i) (first-never p n (i + 1) h)

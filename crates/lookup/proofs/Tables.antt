@@ -1,0 +1,83 @@
+-- `namesIn` and `dynamicIn` by whether the file has sections; and the table of names lies in the file.
+-- Assumes nothing.
+use Prim.Native.Nat.{ℕ}
+use native.Mathlib.Omega.{arith}
+use mathlib.Core.Bool.{Bool, true, false, cond}
+use mathlib.Core.Path.{_≡_, refl, sym, ap, _∙_}
+use mathlib.Core.List.{List}
+use lib.ListN.{length}
+use lib.Dec.{eqb}
+use borrow.Author.Tests.{eq-eqb, ne-eqb, eqb-true}
+use Rattle.endian.specs.Range.{faultAt}
+use Rattle.endian.specs.declared.Fault.{Fault}
+use Rattle.endian.proofs.Laws.{faultless}
+use Rattle.parse.specs.Entry.{rangeOf, rangeAt}
+use Rattle.parse.specs.declared.GotRange.the-variants as range
+use Rattle.section.specs.declared.GotSectionHeader.{GotSectionHeader}
+use Rattle.section.specs.declared.GotSectionHeader.the-variants as header
+use Rattle.elf_bytes.specs.Open.{Tabled}
+use Rattle.elf_bytes.specs.declared.Table.{Table}
+use Rattle.contents.specs.Contents.{sectionIn}
+use Rattle.parse.specs.declared.Range.{Range}
+use Rattle.elf_bytes.specs.declared.Elf.{Elf}
+use Rattle.elf_bytes.specs.declared.Table.the-variants.{Absent, At}
+use Rattle.elf_bytes.specs.declared.GotTable.{GotTable}
+use Rattle.elf_bytes.specs.declared.GotTable.the-variants.{Is}
+use Rattle.lookup.specs.declared.GotIndex.{GotIndex}
+use Rattle.lookup.specs.declared.GotIndex.the-variants as index
+use Rattle.lookup.specs.Lookup.{tableOf, bytesOf, nameIndex, namesAt, namesFrom, namesWith, namesIn, firstSection, dynamicFound, dynamicSegment, dynamicWith, dynamicIn}
+
+pub names-none : (s : List ℕ) (elf : Elf) → elf .sections ≡ Absent → namesIn s elf ≡ Is Absent
+unfolding namesIn
+names-none s elf p = ap (namesWith s elf) p
+
+pub names-zero : (s : List ℕ) (elf : Elf) (r : Range) → elf .sections ≡ At r → elf .names ≡ 0 → namesIn s elf ≡ Is Absent
+unfolding namesIn
+names-zero s elf r p q = ap (namesWith s elf) p ∙ rw (eq-eqb (elf .names) 0 q)
+
+pub names-some : (s : List ℕ) (elf : Elf) (r : Range) → elf .sections ≡ At r → (elf .names ≡ 0 → ⊥) → namesIn s elf ≡ namesFrom s elf (nameIndex s elf)
+unfolding namesIn
+names-some s elf r p q = ap (namesWith s elf) p ∙ rw (ne-eqb (elf .names) 0 q)
+
+pub dynamic-none : (s : List ℕ) (elf : Elf) → elf .sections ≡ Absent → dynamicIn s elf ≡ dynamicSegment s elf
+unfolding dynamicIn
+dynamic-none s elf p = ap (dynamicWith s elf) p
+
+pub dynamic-some : (s : List ℕ) (elf : Elf) (r : Range) → elf .sections ≡ At r → dynamicIn s elf ≡ dynamicFound s elf (firstSection s elf 6)
+unfolding dynamicIn
+dynamic-some s elf r p = ap (dynamicWith s elf) p
+
+-- ---- the table of names lies in the file
+
+range-whole : (s : List ℕ) (o n : ℕ) (t : Table) → tableOf (rangeAt (length s) o n) ≡ Is t → Tabled s t
+unfolding rangeAt
+range-whole s o n t e = pick (faultAt (length s) o n) (eqb (faultAt (length s) o n .number) 0) refl refl e
+  where
+    pick : (f : Fault) (b : Bool) → f ≡ faultAt (length s) o n → eqb (f .number) 0 ≡ b
+        → tableOf (cond b (range.Is (rangeOf o n)) (range.Refused f)) ≡ Is t → Tabled s t
+    pick f true d p q =
+        let w = faultless (length s) o n f d (eqb-true _ _ p) in
+        let z : At (rangeOf o n) ≡ t = cc in
+        rw (← z) (omega arith)
+    pick f false d p q = let z : _≡_ {A = ℕ} 0 1 = cc in absurd (omega arith)
+
+bytes-whole : (s : List ℕ) (h : GotSectionHeader) (t : Table) → bytesOf s h ≡ Is t → Tabled s t
+bytes-whole s (header.Refused f) t e = let z : _≡_ {A = ℕ} 0 1 = cc in absurd (omega arith)
+bytes-whole s (header.Is h) t e = range-whole s (h .offset) (h .size) t e
+
+from-whole : (s : List ℕ) (elf : Elf) (i : GotIndex) (t : Table) → namesFrom s elf i ≡ Is t → Tabled s t
+unfolding namesAt
+from-whole s elf (index.Refused f) t e = let z : _≡_ {A = ℕ} 0 1 = cc in absurd (omega arith)
+from-whole s elf (index.Is i) t e = bytes-whole s (sectionIn s elf i) t e
+
+with-whole : (s : List ℕ) (elf : Elf) (x t : Table) → namesWith s elf x ≡ Is t → Tabled s t
+with-whole s elf Absent t e = let z : Absent ≡ t = cc in rw (← z) tt
+with-whole s elf (At r) t e = pick (eqb (elf .names) 0) e
+  where
+    pick : (b : Bool) → cond b (Is Absent) (namesFrom s elf (nameIndex s elf)) ≡ Is t → Tabled s t
+    pick true q = let z : Absent ≡ t = cc in rw (← z) tt
+    pick false q = from-whole s elf (nameIndex s elf) t q
+
+pub names-whole : (s : List ℕ) (elf : Elf) (t : Table) → namesIn s elf ≡ Is t → Tabled s t
+unfolding namesIn
+names-whole s elf t e = with-whole s elf (elf .sections) t e
