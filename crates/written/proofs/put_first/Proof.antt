@@ -5,7 +5,12 @@ use Rattle.written.proofs.put_first.Statement.{statement}
 use Rattle.written.proofs.put_first.Tie as tie
 
 returns : tie.Need-returns
-returns c = rw (c .before .before .put32 .ensures, c .before .before .before .before .before .before .put162 .ensures, c .before .before .before .before .before .before .before .before .before .before .put16 .ensures)
+returns c =
+    rw (
+      c .before .before .put32 .ensures,
+      c .before .before .before .before .before .before .put162 .ensures,
+      c .before .before .before .before .before .before .before .before .before .before .put16 .ensures,
+    )
 
 pub put-first-spec : {M : Type 1} → statement M
 put-first-spec =

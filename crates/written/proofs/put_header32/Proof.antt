@@ -7,7 +7,13 @@ use Rattle.written.proofs.put_header32.Tie as tie
 
 returns : tie.Need-returns
 unfolding headerBytes
-returns c = rw (c .before .before .put-last .ensures, c .before .before .before .before .before .before .put-three32 .ensures, c .before .before .before .before .before .before .before .before .before .before .put-first .ensures, c .before .before .before .before .before .before .before .before .before .before .before .before .before .before .put-ident .ensures)
+returns c =
+    rw (
+      c .before .before .put-last .ensures,
+      c .before .before .before .before .before .before .put-three32 .ensures,
+      c .before .before .before .before .before .before .before .before .before .before .put-first .ensures,
+      c .before .before .before .before .before .before .before .before .before .before .before .before .before .before .put-ident .ensures,
+    )
 
 pub put-header32-spec : {M : Type 1} → statement M
 put-header32-spec =

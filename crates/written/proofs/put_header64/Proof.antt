@@ -7,7 +7,13 @@ use Rattle.written.proofs.put_header64.Tie as tie
 
 returns : tie.Need-returns
 unfolding headerBytes
-returns c = rw (c .before .before .put-last .ensures, c .before .before .before .before .before .before .put-three64 .ensures, c .before .before .before .before .before .before .before .before .before .before .put-first .ensures, c .before .before .before .before .before .before .before .before .before .before .before .before .before .before .put-ident .ensures)
+returns c =
+    rw (
+      c .before .before .put-last .ensures,
+      c .before .before .before .before .before .before .put-three64 .ensures,
+      c .before .before .before .before .before .before .before .before .before .before .put-first .ensures,
+      c .before .before .before .before .before .before .before .before .before .before .before .before .before .before .put-ident .ensures,
+    )
 
 pub put-header64-spec : {M : Type 1} → statement M
 put-header64-spec =

@@ -12,13 +12,20 @@ cast-words2 : tie.Need-cast-words2
 cast-words2 c = omega (arith, c .before .before .before .before .before .before .before .before .before .before .before .before .before .before .before .pre)
 
 cast-words2-2 : tie.Need-cast-words2-2
-cast-words2-2 c = omega (arith, c .before .before .before .before .before .before .before .before .before .before .before .before .before .before .before .before .pre)
+cast-words2-2 c =
+    omega (arith, c .before .before .before .before .before .before .before .before .before .before .before .before .before .before .before .before .pre)
 
 words2-requires : tie.Need-words2-requires
-words2-requires c κs = omega (arith, c .before .before .before .before .before .before .before .before .before .before .before .before .before .before .before .before .pre)
+words2-requires c κs =
+    omega (arith, c .before .before .before .before .before .before .before .before .before .before .before .before .before .before .before .before .pre)
 
 returns : tie.Need-returns
-returns c = rw (c .before .before .words2 .ensures, c .before .before .before .before .before .before .before .before .words42 .ensures, c .before .before .before .before .before .before .before .before .before .before .before .before .before .before .words4 .ensures)
+returns c =
+    rw (
+      c .before .before .words2 .ensures,
+      c .before .before .before .before .before .before .before .before .words42 .ensures,
+      c .before .before .before .before .before .before .before .before .before .before .before .before .before .before .words4 .ensures,
+    )
 
 pub put-section32-spec : {M : Type 1} → statement M
 put-section32-spec =

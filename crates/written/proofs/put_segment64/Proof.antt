@@ -5,7 +5,13 @@ use Rattle.written.proofs.put_segment64.Statement.{statement}
 use Rattle.written.proofs.put_segment64.Tie as tie
 
 returns : tie.Need-returns
-returns c = rw (c .before .before .longs23 .ensures, c .before .before .before .before .before .before .longs22 .ensures, c .before .before .before .before .before .before .before .before .before .before .longs2 .ensures, c .before .before .before .before .before .before .before .before .before .before .before .before .before .before .words2 .ensures)
+returns c =
+    rw (
+      c .before .before .longs23 .ensures,
+      c .before .before .before .before .before .before .longs22 .ensures,
+      c .before .before .before .before .before .before .before .before .before .before .longs2 .ensures,
+      c .before .before .before .before .before .before .before .before .before .before .before .before .before .before .words2 .ensures,
+    )
 
 pub put-segment64-spec : {M : Type 1} → statement M
 put-segment64-spec =

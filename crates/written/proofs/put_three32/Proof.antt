@@ -5,7 +5,12 @@ use Rattle.written.proofs.put_three32.Statement.{statement}
 use Rattle.written.proofs.put_three32.Tie as tie
 
 returns : tie.Need-returns
-returns c = rw (c .before .before .put323 .ensures, c .before .before .before .before .before .before .put322 .ensures, c .before .before .before .before .before .before .before .before .before .before .put32 .ensures)
+returns c =
+    rw (
+      c .before .before .put323 .ensures,
+      c .before .before .before .before .before .before .put322 .ensures,
+      c .before .before .before .before .before .before .before .before .before .before .put32 .ensures,
+    )
 
 pub put-three32-spec : {M : Type 1} → statement M
 put-three32-spec =

@@ -5,7 +5,12 @@ use Rattle.written.proofs.put_three64.Statement.{statement}
 use Rattle.written.proofs.put_three64.Tie as tie
 
 returns : tie.Need-returns
-returns c = rw (c .before .before .put643 .ensures, c .before .before .before .before .before .before .put642 .ensures, c .before .before .before .before .before .before .before .before .before .before .put64 .ensures)
+returns c =
+    rw (
+      c .before .before .put643 .ensures,
+      c .before .before .before .before .before .before .put642 .ensures,
+      c .before .before .before .before .before .before .before .before .before .before .put64 .ensures,
+    )
 
 pub put-three64-spec : {M : Type 1} → statement M
 put-three64-spec =
