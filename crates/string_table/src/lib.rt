@@ -6,7 +6,7 @@ ghost use Prim.Native.Nat.{_≤_};
 ghost use lib.ListN.{length};
 ghost use Rattle.endian.specs.Range.{answer};
 ghost use Rattle.parse.specs.declared.Found.{Found};
-ghost use Rattle.string_table.specs.Text.{endOf, lastZero, textFault, faultWith, textAt, textRange, sameBytes};
+ghost use Rattle.string_table.specs.Text.{endOf, lastZero, textFault, faultWith, textAt, textRange, sameBytes, compared};
 ghost use Rattle.string_table.specs.Utf8.{rowOf, pending, awaited, stepOf, wellFormed, utf8Fault};
 use endian::Fault;
 use parse::Found;
@@ -129,6 +129,35 @@ pub fn same_at(t: &[u8], last: usize, o: usize, name: &[u8]) -> bool
         }
     }
     true
+}
+
+// What a comparison of a string with a name answers.
+pub enum Compared {
+    Same,
+    Other,
+    Refused(Fault),
+}
+
+// The string at o compared with a name, in a table whose last zero byte is known. An offset where no string stands is refused.
+pub fn compare(t: &[u8], last: Found, o: usize, name: &[u8]) -> Compared
+    requires { ⌜ last ≡ lastZero (now t) ⌝ }
+    ensures { λ r. ⌜ r ≡ answer (textFault (now (t .entry)) o)
+        (compared (sameBytes (textAt (now (t .entry)) o) (now (name .entry)))) Compared.Refused ⌝ }
+{
+    let f = fault_with(last, t.len(), o);
+    if f.number != 0 {
+        return Compared::Refused(f);
+    }
+    match last {
+        Found::At(l) => {
+            let same = same_at(t, l, o, name);
+            if same {
+                return Compared::Same;
+            }
+            Compared::Other
+        }
+        Found::Nothing => Compared::Other,
+    }
 }
 
 // The bytes of a sequence that are still to come: how many, and from where to where the next one may be.
