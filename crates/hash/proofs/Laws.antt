@@ -54,6 +54,7 @@ module _ (e : Order) (h : List ℕ) where
     where
       rest : Fault
       rest = orElse (faultAt (length h) 8 (4 * bucketCount e h)) (faultAt (length h) (chainPlace e h) (4 * chainCount e h))
+
       pick : (t : Bool) → leb 4 (length h) ≡ t → orElse (faultAt (length h) 0 4) (orElse (faultAt (length h) 4 4) rest) ≡ faulty 11
       pick true q = let k = leb-true 4 (length h) q in rw (range-in (length h) 0 4 (omega arith) (omega arith), range-out (length h) 4 4 (omega arith) (omega arith))
       pick false q = let k = leb-false 4 (length h) q in rw (range-out (length h) 0 4 (omega arith) (omega arith))
@@ -135,6 +136,14 @@ module _ (e : Order) (h : List ℕ) where
         let k : chainCount e h ≤ i = rw told-chains at p in
         let r : g ≡ entryFault 4 (4 * chainCount e h) i = rw told-chains at q in
         refused _ g _ Fails r (λ z. let w : i < 4 * chainCount e h / 4 = counted 4 (4 * chainCount e h) i g (omega arith) r z in omega arith)
+
+-- the bucket of a hash lies in the table
+pub start-room : (e : Order) (h : List ℕ) (d : Head) (n : ℕ) → Is d ≡ answer (hashFault e h) (Is (headOf e h)) HeadRefused → (d .buckets ≡ 0 → ⊥)
+    → 8 + 4 * (n % d .buckets) + 4 ≤ length h
+start-room e h d n p q =
+    let t = head-told e h d p in
+    let b : 0 < d .buckets = omega arith in
+    omega (arith, told-room e h d (t .1) (t .0), mod-lt n b)
 
 -- a symbol's size, and where its name stands
 pub size-room : (c : Class) → 4 ≤ sizeOf symbol c
