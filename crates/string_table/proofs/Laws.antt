@@ -181,3 +181,27 @@ module _ (s : List ℕ) (o : ℕ) where
           → Refused g ≡ answer (cond t (cond (wellFormed (textAt s o)) noFault (faulty 13)) (textFault s o)) (Is (textRange s o)) Refused
       pick true q r = let z : _≡_ {A = ℕ} 0 1 = cc in absurd (omega arith)
       pick false q r = rw q r
+
+pub fault-told : (s : List ℕ) (o : ℕ) (f : Found) (g : Fault) → f ≡ lastZero s → g ≡ faultWith f (length s) o → g ≡ textFault s o
+fault-told s o f g p q = (rw p at q) ∙ fault-known s o
+
+-- a string that stands in a table whose last zero byte is known starts at or before that byte
+pub known-inside : (len o : ℕ) (f : Found) (g : Fault) → g ≡ faultWith f len o → g .number ≡ 0 → (l : ℕ) → f ≡ At l → o ≤ l
+unfolding faultWith
+known-inside len o f g q z l e = pick (eqb len 0) (ltb len o) (leb o l) refl
+    (ap (λ (x : Fault). x .number) (sym (rw e at q)) ∙ z)
+  where
+    pick : (a b d : Bool) → leb o l ≡ d → (cond a (faulty 5) (cond b (faulty 5) (cond d noFault (faulty 6)))) .number ≡ 0 → o ≤ l
+    pick true b d r k = let y : _≡_ {A = ℕ} 5 0 = k in absurd (omega arith)
+    pick false true d r k = let y : _≡_ {A = ℕ} 5 0 = k in absurd (omega arith)
+    pick false false true r k = leb-true _ _ r
+    pick false false false r k = let y : _≡_ {A = ℕ} 6 0 = k in absurd (omega arith)
+
+pub known-some : (len o : ℕ) (f : Found) (g : Fault) → g ≡ faultWith f len o → g .number ≡ 0 → f ≡ Nothing → ⊥
+unfolding faultWith
+known-some len o f g q z e = pick (eqb len 0) (ltb len o) (ap (λ (x : Fault). x .number) (sym (rw e at q)) ∙ z)
+  where
+    pick : (a b : Bool) → (cond a (faulty 5) (cond b (faulty 5) (faulty 6))) .number ≡ 0 → ⊥
+    pick true b k = let y : _≡_ {A = ℕ} 5 0 = k in omega arith
+    pick false true k = let y : _≡_ {A = ℕ} 5 0 = k in omega arith
+    pick false false k = let y : _≡_ {A = ℕ} 6 0 = k in omega arith

@@ -8,6 +8,7 @@
 -- textAt s o               the bytes of the string at o
 -- textRange s o            where they stand in the table
 -- sameBytes s t            whether two byte lists are equal
+-- compared b               what a comparison answers
 -- Assumes nothing.
 use Prim.Native.Nat.{ℕ, zero, suc, _-_}
 use mathlib.Core.Bool.{Bool, true, false, cond, _&&_}
@@ -20,6 +21,8 @@ use Rattle.parse.specs.First.{firstFrom}
 use Rattle.parse.specs.declared.Found.{Found}
 use Rattle.parse.specs.declared.Found.the-variants.{At, Nothing}
 use Rattle.parse.specs.declared.Range.{Range}
+use Rattle.string_table.specs.declared.Compared.{Compared}
+use Rattle.string_table.specs.declared.Compared.the-variants.{Same, Other}
 
 abbrev pub isZero : List ℕ → ℕ → Bool
 isZero s i = eqb (getD s i 0) 0
@@ -69,3 +72,7 @@ sameBytes [] [] = true
 sameBytes [] (b ∷ t) = false
 sameBytes (a ∷ s) [] = false
 sameBytes (a ∷ s) (b ∷ t) = eqb a b && sameBytes s t
+
+abbrev pub compared : Bool → Compared
+compared true = Same
+compared false = Other

@@ -6,8 +6,8 @@ ghost use Prim.Native.Nat.{_≤_};
 ghost use lib.ListN.{length};
 ghost use Rattle.endian.specs.Range.{answer};
 ghost use Rattle.parse.specs.declared.Found.{Found};
-ghost use Rattle.string_table.specs.Text.{endOf, lastZero, textFault, faultWith, textAt, textRange, sameBytes};
-ghost use Rattle.string_table.specs.Utf8.{rowOf, awaited, stepOf, wellFormed, utf8Fault};
+ghost use Rattle.string_table.specs.Text.{endOf, lastZero, textFault, faultWith, textAt, textRange, sameBytes, compared};
+ghost use Rattle.string_table.specs.Utf8.{rowOf, pending, awaited, stepOf, wellFormed, utf8Fault};
 use endian::Fault;
 use parse::Found;
 use parse::GotRange;
@@ -131,6 +131,35 @@ pub fn same_at(t: &[u8], last: usize, o: usize, name: &[u8]) -> bool
     true
 }
 
+// What a comparison of a string with a name answers.
+pub enum Compared {
+    Same,
+    Other,
+    Refused(Fault),
+}
+
+// The string at o compared with a name, in a table whose last zero byte is known. An offset where no string stands is refused.
+pub fn compare(t: &[u8], last: Found, o: usize, name: &[u8]) -> Compared
+    requires { ⌜ last ≡ lastZero (now t) ⌝ }
+    ensures { λ r. ⌜ r ≡ answer (textFault (now (t .entry)) o)
+        (compared (sameBytes (textAt (now (t .entry)) o) (now (name .entry)))) Compared.Refused ⌝ }
+{
+    let f = fault_with(last, t.len(), o);
+    if f.number != 0 {
+        return Compared::Refused(f);
+    }
+    match last {
+        Found::At(l) => {
+            let same = same_at(t, l, o, name);
+            if same {
+                return Compared::Same;
+            }
+            Compared::Other
+        }
+        Found::Nothing => Compared::Other,
+    }
+}
+
 // The bytes of a sequence that are still to come: how many, and from where to where the next one may be.
 struct Awaited {
     more: u8,
@@ -138,85 +167,51 @@ struct Awaited {
     high: u8,
 }
 
+fn awaits(more: u8, low: u8, high: u8) -> Awaited
+    ensures { λ r. ⌜ awaited r ≡ pending more low high ⌝ }
+{
+    Awaited {
+        more: more,
+        low: low,
+        high: high,
+    }
+}
+
 // What must follow a byte that starts a sequence. A byte that starts none is followed by a byte that does not exist.
 fn start(b: u8) -> Awaited
     ensures { λ r. ⌜ awaited r ≡ rowOf b ⌝ }
 {
     if b <= 127 {
-        return Awaited {
-            more: 0,
-            low: 0,
-            high: 0,
-        };
+        return awaits(0, 0, 0);
     }
     if b <= 193 {
-        return Awaited {
-            more: 1,
-            low: 1,
-            high: 0,
-        };
+        return awaits(1, 1, 0);
     }
     if b <= 223 {
-        return Awaited {
-            more: 1,
-            low: 128,
-            high: 191,
-        };
+        return awaits(1, 128, 191);
     }
     if b <= 224 {
-        return Awaited {
-            more: 2,
-            low: 160,
-            high: 191,
-        };
+        return awaits(2, 160, 191);
     }
     if b <= 236 {
-        return Awaited {
-            more: 2,
-            low: 128,
-            high: 191,
-        };
+        return awaits(2, 128, 191);
     }
     if b <= 237 {
-        return Awaited {
-            more: 2,
-            low: 128,
-            high: 159,
-        };
+        return awaits(2, 128, 159);
     }
     if b <= 239 {
-        return Awaited {
-            more: 2,
-            low: 128,
-            high: 191,
-        };
+        return awaits(2, 128, 191);
     }
     if b <= 240 {
-        return Awaited {
-            more: 3,
-            low: 144,
-            high: 191,
-        };
+        return awaits(3, 144, 191);
     }
     if b <= 243 {
-        return Awaited {
-            more: 3,
-            low: 128,
-            high: 191,
-        };
+        return awaits(3, 128, 191);
     }
     if b <= 244 {
-        return Awaited {
-            more: 3,
-            low: 128,
-            high: 143,
-        };
+        return awaits(3, 128, 143);
     }
-    Awaited {
-        more: 1,
-        low: 1,
-        high: 0,
-    }
+    awaits(1, 1, 0)
 }
 
 // What must follow a byte, when `a` was awaited.
@@ -227,28 +222,16 @@ fn next(a: Awaited, b: u8) -> Awaited
         return start(b);
     }
     if (a.low <= b) & (b <= a.high) {
-        return Awaited {
-            more: a.more - 1,
-            low: 128,
-            high: 191,
-        };
+        return awaits(a.more - 1, 128, 191);
     }
-    Awaited {
-        more: 1,
-        low: 1,
-        high: 0,
-    }
+    awaits(1, 1, 0)
 }
 
 // Whether the bytes are well-formed UTF-8.
 pub fn is_utf8(s: &[u8]) -> bool
     ensures { λ r. ⌜ r ≡ wellFormed (now (s .entry)) ⌝ }
 {
-    let mut a = Awaited {
-        more: 0,
-        low: 0,
-        high: 0,
-    };
+    let mut a = awaits(0, 0, 0);
     let mut i = 0;
     while i < s.len() {
         a = next(a, s[i]);

@@ -19,13 +19,13 @@ abbrev μ-loop : tie.MeasureT-loop
 μ-loop s a₀ i₀ a i = length s - i
 
 loop-holds : tie.Need-loop-holds Inv-loop μ-loop
-unfolding wellFormed awaited
-loop-holds c = refl
+unfolding wellFormed
+loop-holds c = rw (c .awaits .ensures)
 
 loop-again : tie.Need-loop-again Inv-loop μ-loop
 loop-again c =
     let i = c .before .before .before .loop .i in
-    let s = c .before .before .before .before .before .args .s .now in
+    let s = c .before .before .before .before .before .before .args .s .now in
     rw (c .next .ensures, add-one i, ← (step (awaited (c .before .before .before .loop .a)) _ (drop (Prim.Native.Nat.suc i) s)), ← (drop-cons s i 0 (c .before .before .loop-test .taken))) (c .before .before .before .loop .inv)
 
 returns : tie.Need-returns Inv-loop μ-loop
@@ -37,6 +37,7 @@ is-utf8-spec =
     (tie.spec
     Inv-loop
     μ-loop
+    (λ c κs. search needs)
     loop-holds
     (λ c. search needs)
     (λ c κs. search needs)
