@@ -1,2 +1,4 @@
+-- The crate's laws, a file each.
+-- Assumes nothing.
 pub mod Same
 pub mod Filled

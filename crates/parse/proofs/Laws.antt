@@ -1,12 +1,12 @@
 -- The laws of `entryFault`, `countOf` and `firstFrom`, and of products that are tested before they are made.
 -- Assumes nothing.
 use Prim.Native.Nat.{ℕ, zero, suc, _+_, _*_, _-_, _/_, _^_, _<_, _≤_}
-use native.Mathlib.Nat.{le-div-iff-mul-le, lt-of-not-le, suc-mul}
+use native.Mathlib.Nat.{le-div-iff-mul-le, lt-of-not-le, suc-mul, mul-le-mul-left}
 use native.Mathlib.Omega.{arith}
 use mathlib.Core.Path.{_≡_, refl, sym, ap, _∙_}
 use mathlib.Core.Bool.{Bool, true, false, cond}
 use lib.Dec.{leb, ltb, eqb}
-use borrow.Author.Tests.{leb-true, le-leb, lt-leb, le-ltb, ne-eqb}
+use borrow.Author.Tests.{ltb-true, ltb-false, leb-true, le-leb, lt-leb, le-ltb, ne-eqb}
 use Rattle.endian.specs.Range.{faulty, noFault}
 use Rattle.endian.specs.declared.Fault.{Fault}
 use Rattle.parse.specs.Entry.{entryFault, countOf}
@@ -22,6 +22,18 @@ product-over i size p h =
     let m = lt-of-not-le {n = i * size} {m = 18446744073709551615}
     (λ q. let k = le-div-iff-mul-le {k = size} {x = i} {y = 18446744073709551615} p .1 q in omega arith) in
     omega arith
+
+-- the quotient's test is the product's
+pub product-test : (n size : ℕ) → 0 < size → ltb (18446744073709551615 / size) n ≡ leb (2 ^ 64) (n * size)
+product-test n size p = pick (ltb (18446744073709551615 / size) n) refl
+  where
+    pick : (b : Bool) → ltb (18446744073709551615 / size) n ≡ b → b ≡ leb (2 ^ 64) (n * size)
+    pick true e = sym (le-leb (2 ^ 64) _ (product-over n size p (ltb-true _ _ e)))
+    pick false e = sym (lt-leb (2 ^ 64) _ (product-fits n size p (ltb-false _ _ e)))
+
+-- a product of two small numbers
+pub product-small : (n size : ℕ) → n < 288230376151711744 → size ≤ 64 → n * size < 2 ^ 64
+product-small n size h l = let k = mul-le-mul-left n l in omega arith
 
 -- an entry without a fault lies in the table
 pub whole : (size len i : ℕ) (g : Fault) → g ≡ entryFault size len i → g .number ≡ 0 → i * size + size ≤ len

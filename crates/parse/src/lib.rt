@@ -1,10 +1,10 @@
 // Tables and ranges: entry i of a table, how many entries it has, the first of a kind, a range of the data.
 // A table is a part of the data with entries of one size; what stands behind the last whole entry is ignored.
 ghost use mathlib.Core.Path.{_≡_};
-ghost use Prim.Native.Nat.{_+_, _≤_};
+ghost use Prim.Native.Nat.{_+_, _*_, _^_, _≤_};
+ghost use lib.Dec.{leb};
 ghost use lib.ListN.{length};
-ghost use Rattle.endian.specs.Range.{faultAt, answer};
-ghost use Rattle.parse.specs.Entry.{entryFault, countOf, rangeOf};
+ghost use Rattle.parse.specs.Entry.{entryFault, countOf, rangeAt};
 ghost use Rattle.parse.specs.First.{firstKind};
 use endian::Fault;
 use endian::Order;
@@ -49,6 +49,22 @@ pub fn entry_fault(size: usize, len: usize, i: usize) -> Fault
     Fault { number: 11 }
 }
 
+// Does the product overflow? A count that small needs no division: every entry of the ABI has at most 64 bytes.
+pub fn overflows(n: usize, size: usize) -> bool
+    ensures { λ r. ⌜ r ≡ leb (2 ^ 64) (n * size) ⌝ }
+{
+    if size == 0 {
+        return false;
+    }
+    if n < 288230376151711744 {
+        if size <= 64 {
+            return false;
+        }
+        return n > 18446744073709551615 / size;
+    }
+    n > 18446744073709551615 / size
+}
+
 // How many whole entries a table of len bytes has: as many as a walk visits.
 pub fn count(size: usize, len: usize) -> usize
     ensures { λ r. ⌜ r ≡ countOf size len ⌝ }
@@ -61,7 +77,7 @@ pub fn count(size: usize, len: usize) -> usize
 
 // The n bytes at o of data of len bytes.
 pub fn range_at(len: usize, o: usize, n: usize) -> GotRange
-    ensures { λ r. ⌜ r ≡ answer (faultAt len o n) (GotRange.Is (rangeOf o n)) GotRange.Refused ⌝ }
+    ensures { λ r. ⌜ r ≡ rangeAt len o n ⌝ }
 {
     let f = endian::range_fault(len, o, n);
     if f.number == 0 {

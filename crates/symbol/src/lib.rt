@@ -7,6 +7,7 @@ ghost use Rattle.endian.specs.Range.{answer};
 ghost use Rattle.endian.specs.Place.{sizeOf, symbol};
 ghost use Rattle.parse.specs.Entry.{entryFault};
 ghost use Rattle.symbol.specs.Layout.{symbolAt};
+ghost use Rattle.symbol.specs.Small.{isUndefined, bindOf, typeOf, visibilityOf};
 use endian::Class;
 use endian::Fault;
 use endian::Order;
@@ -95,4 +96,32 @@ pub fn entry(class: Class, order: Order, t: &[u8], i: usize) -> GotSymbol
     } else {
         GotSymbol::Refused(f)
     }
+}
+
+// Whether the symbol is defined in another file: its section is the undefined one.
+pub fn is_undefined(s: Symbol) -> bool
+    ensures { λ r. ⌜ r ≡ isUndefined s ⌝ }
+{
+    s.shndx == 0
+}
+
+// The binding, in the upper half of the info field.
+pub fn st_bind(s: Symbol) -> u8
+    ensures { λ r. ⌜ r ≡ bindOf s ⌝ }
+{
+    s.info / 16
+}
+
+// The type, in the lower half.
+pub fn st_symtype(s: Symbol) -> u8
+    ensures { λ r. ⌜ r ≡ typeOf s ⌝ }
+{
+    s.info % 16
+}
+
+// The visibility, in the low two bits of the other field.
+pub fn st_vis(s: Symbol) -> u8
+    ensures { λ r. ⌜ r ≡ visibilityOf s ⌝ }
+{
+    s.other % 4
 }

@@ -1,3 +1,5 @@
+-- `endian::le16` meets its contract: the number of the two bytes together.
+-- Assumes nothing.
 use denote.Ref.{now}
 use Prim.Native.Nat.{_+_}
 use Rattle.endian.proofs.Laws.{number-add, number-one}

@@ -1,3 +1,5 @@
+-- `endian::le64` meets its contract: the number of the two halves together.
+-- Assumes nothing.
 use denote.Ref.{now}
 use Rattle.endian.proofs.Laws.{number-add}
 use native.Mathlib.Omega.{arith}

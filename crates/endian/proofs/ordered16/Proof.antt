@@ -1,3 +1,5 @@
+-- `endian::ordered16` meets its contract: the order decides.
+-- Assumes nothing.
 use borrow.Author.Needs.{needs}
 use Rattle.endian.proofs.ordered16.Statement.{statement}
 use Rattle.endian.proofs.ordered16.Tie as tie

@@ -1,3 +1,5 @@
+-- `endian::ordered32` meets its contract: the order decides.
+-- Assumes nothing.
 use borrow.Author.Needs.{needs}
 use Rattle.endian.proofs.ordered32.Statement.{statement}
 use Rattle.endian.proofs.ordered32.Tie as tie

@@ -1,3 +1,5 @@
+-- `endian::ordered64` meets its contract: the order decides.
+-- Assumes nothing.
 use borrow.Author.Needs.{needs}
 use Rattle.endian.proofs.ordered64.Statement.{statement}
 use Rattle.endian.proofs.ordered64.Tie as tie

@@ -1,3 +1,5 @@
+-- `endian::put32` meets its contract: the bytes of a number highest first are those of the swapped one lowest first.
+-- Assumes nothing.
 use native.Mathlib.Omega.{arith}
 use Rattle.endian.proofs.Written.{bytes-ordered}
 use borrow.Author.Needs.{needs}

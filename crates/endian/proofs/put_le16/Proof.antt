@@ -1,3 +1,5 @@
+-- `endian::put_le16` meets its contract: the low byte, and then the high one.
+-- Assumes nothing.
 use native.Mathlib.Omega.{arith}
 use lib.ListN.{length-set}
 use native.Mathlib.Numerals.{add-one}

@@ -1,3 +1,5 @@
+-- `endian::put_le64` meets its contract: the low half, and then the high one.
+-- Assumes nothing.
 use denote.Ref.{now}
 use Rattle.endian.proofs.Written.{written-add}
 use borrow.Author.Needs.{needs}

@@ -1,3 +1,5 @@
+-- `endian::swap16` meets its contract: each byte in the other's place.
+-- Assumes nothing.
 use native.Mathlib.Omega.{arith}
 use Rattle.endian.specs.Number.{swapped}
 use borrow.Author.Needs.{needs}

@@ -1,3 +1,5 @@
+-- `endian::swap64` meets its contract: each half swapped, in the other half's place.
+-- Assumes nothing.
 use native.Mathlib.Omega.{arith}
 use Rattle.endian.proofs.Laws.{swap-add}
 use borrow.Author.Needs.{needs}

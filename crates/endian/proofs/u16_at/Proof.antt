@@ -1,3 +1,5 @@
+-- `endian::u16_at` meets its contract: a range without a fault lies in the bytes.
+-- Assumes nothing.
 use mathlib.Core.Path.{sym, ap, _∙_}
 use Rattle.endian.proofs.Laws.{faultless, answered, refused}
 use Rattle.endian.specs.declared.Got16.the-variants.{Value, Refused}

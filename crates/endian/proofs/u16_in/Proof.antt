@@ -1,3 +1,5 @@
+-- `endian::u16_in` meets its contract: a number highest byte first is the swapped one lowest byte first, for bytes below 256.
+-- Assumes nothing.
 use denote.Ref.{now}
 use Rattle.endian.proofs.Laws.{number-ordered}
 use native.Mathlib.Omega.{arith}

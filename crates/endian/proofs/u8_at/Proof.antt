@@ -1,3 +1,5 @@
+-- `endian::u8_at` meets its contract: a range without a fault lies in the bytes.
+-- Assumes nothing.
 use native.Mathlib.Omega.{arith}
 use mathlib.Core.Path.{sym, ap, _∙_}
 use Rattle.endian.proofs.Laws.{faultless, answered, refused}

@@ -1,3 +1,5 @@
+-- `file::header` meets its contract: the identification decides, then the length.
+-- Assumes nothing.
 use mathlib.Core.Path.{ap}
 use borrow.Author.Tests.{le-leb, lt-leb}
 use Rattle.file.specs.Open.{headerOf}

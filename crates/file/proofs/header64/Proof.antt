@@ -1,3 +1,5 @@
+-- `file::header64` meets its contract: each field is the number at its place.
+-- Assumes nothing.
 use Rattle.endian.specs.declared.Class.the-variants.{Elf64}
 use Rattle.file.proofs.Same.{header-at}
 use borrow.Author.Needs.{needs}

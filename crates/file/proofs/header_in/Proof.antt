@@ -1,3 +1,5 @@
+-- `file::header_in` meets its contract: the class decides which of the two readers answers.
+-- Assumes nothing.
 use borrow.Author.Needs.{needs}
 use Rattle.file.proofs.header_in.Statement.{statement}
 use Rattle.file.proofs.header_in.Tie as tie

@@ -1,3 +1,5 @@
+-- `file::identify` meets its contract: each answer is the branch of `identOf` that the tests before it leave.
+-- Assumes nothing.
 use borrow.Author.Tests.{eq-eqb, ne-eqb, le-leb, lt-leb}
 use mathlib.Core.Path.{sym, ap, _∙_}
 use Rattle.file.specs.Open.{identOf}

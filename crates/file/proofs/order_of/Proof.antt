@@ -1,3 +1,5 @@
+-- `file::order_of` meets its contract: the byte is told apart as `orderOf` does.
+-- Assumes nothing.
 use borrow.Author.Tests.{eq-eqb, ne-eqb}
 use Rattle.file.proofs.order_of.Statement.{statement}
 use Rattle.file.proofs.order_of.Tie as tie

@@ -1,3 +1,5 @@
+-- `section::section64` meets its contract: each field is the number at its place.
+-- Assumes nothing.
 use Rattle.endian.specs.declared.Class.the-variants.{Elf64}
 use Rattle.endian.proofs.Laws.{at-start}
 use Rattle.section.proofs.Same.{section-at}

@@ -1,3 +1,5 @@
+-- `section::section_in` meets its contract: the class decides which of the two readers answers.
+-- Assumes nothing.
 use borrow.Author.Needs.{needs}
 use Rattle.section.proofs.section_in.Statement.{statement}
 use Rattle.section.proofs.section_in.Tie as tie

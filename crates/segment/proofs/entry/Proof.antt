@@ -1,3 +1,5 @@
+-- `segment::entry` meets its contract: an entry without a fault lies in the table.
+-- Assumes nothing.
 use native.Mathlib.Omega.{arith}
 use mathlib.Core.Path.{sym, ap, _∙_}
 use Rattle.endian.proofs.Laws.{answered, refused}

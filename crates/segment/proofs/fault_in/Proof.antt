@@ -1,3 +1,5 @@
+-- `segment::fault_in` meets its contract: the class decides the size.
+-- Assumes nothing.
 use borrow.Author.Needs.{needs}
 use Rattle.segment.proofs.fault_in.Statement.{statement}
 use Rattle.segment.proofs.fault_in.Tie as tie

@@ -1,3 +1,5 @@
+-- `segment::segment32` meets its contract: each field is the number at its place.
+-- Assumes nothing.
 use Rattle.endian.specs.declared.Class.the-variants.{Elf32}
 use Rattle.endian.proofs.Laws.{at-start}
 use Rattle.segment.proofs.Same.{segment-at}

@@ -1,3 +1,5 @@
+-- `symbol::fault_in` meets its contract: the class decides the size.
+-- Assumes nothing.
 use borrow.Author.Needs.{needs}
 use Rattle.symbol.proofs.fault_in.Statement.{statement}
 use Rattle.symbol.proofs.fault_in.Tie as tie

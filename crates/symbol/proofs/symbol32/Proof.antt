@@ -1,3 +1,5 @@
+-- `symbol::symbol32` meets its contract: each field is the number at its place.
+-- Assumes nothing.
 use mathlib.Core.Path.{sym}
 use Rattle.endian.specs.declared.Class.the-variants.{Elf32}
 use Rattle.endian.proofs.Laws.{at-start, number-one}

@@ -1,3 +1,5 @@
+-- `symbol::symbol_in` meets its contract: the class decides which of the two readers answers.
+-- Assumes nothing.
 use borrow.Author.Needs.{needs}
 use Rattle.symbol.proofs.symbol_in.Statement.{statement}
 use Rattle.symbol.proofs.symbol_in.Tie as tie
