@@ -3,10 +3,7 @@ use native.Mathlib.Omega.{arith}
 use Rattle.load_rules.proofs.Power.{one-bit}
 use Rattle.load_rules.proofs.is_power2.Statement.{statement}
 use Rattle.load_rules.proofs.is_power2.Tie as tie
-use Rattle.load_rules.proofs.is_power2.Reads as reads
-use Rattle.load_rules.proofs.is_power2.Lts as lts
 
--- src/lib.rt:19:1
 returns : tie.Need-returns
 returns c = one-bit (c .args .a) (omega arith)
 

@@ -2,14 +2,10 @@
 use borrow.Author.Tests.{eq-eqb, ne-eqb}
 use Rattle.load_rules.proofs.low_of.Statement.{statement}
 use Rattle.load_rules.proofs.low_of.Tie as tie
-use Rattle.load_rules.proofs.low_of.Reads as reads
-use Rattle.load_rules.proofs.low_of.Lts as lts
 
--- src/lib.rt:82:9
 returns : tie.Need-returns
 returns c = rw (eq-eqb _ _ (c .if1 .taken))
 
--- src/lib.rt:78:1
 returns-2 : tie.Need-returns-2
 returns-2 c = rw (ne-eqb _ _ (c .if1 .left))
 

@@ -1,3 +1,4 @@
+-- `memory::zero` meets its contract: the first i bytes are 0, and the rest is as it was. Assumes nothing.
 use mathlib.Core.Path.{ap, _∙_, sym}
 use mathlib.Core.List.{List}
 use Prim.Native.Nat.{ℕ}
@@ -13,8 +14,6 @@ use borrow.Author.Needs.{needs}
 use borrow.Author.Fill.{fill-more}
 use Rattle.memory.proofs.zero.Statement.{statement}
 use Rattle.memory.proofs.zero.Tie as tie
-use Rattle.memory.proofs.zero.Reads as reads
-use Rattle.memory.proofs.zero.Lts as lts
 
 abbrev Inv-loop : tie.InvT-loop
 Inv-loop s₀ i₀ s i = (i ≤ length s₀) × ((s ≡ replicate i 0 ++ drop i s₀) × (length s ≡ length s₀))
@@ -22,31 +21,18 @@ Inv-loop s₀ i₀ s i = (i ≤ length s₀) × ((s ≡ replicate i 0 ++ drop i 
 abbrev μ-loop : tie.MeasureT-loop
 μ-loop s₀ i₀ s i = length s₀ - i
 
--- src/lib.rt:45:5
-loop-holds : tie.Need-loop-holds Inv-loop μ-loop
-loop-holds c = search needs
-
--- src/lib.rt:46:9
 slice-write-s : tie.Need-slice-write-s Inv-loop μ-loop
 slice-write-s c = omega arith
 
--- src/lib.rt:47:9
 add-i : tie.Need-add-i Inv-loop μ-loop
 add-i c = omega arith
 
--- src/lib.rt:45:5
 loop-less : tie.Need-loop-less Inv-loop μ-loop
 loop-less c = omega arith
 
--- src/lib.rt:45:5
 loop-again : tie.Need-loop-again Inv-loop μ-loop
 loop-again c = let l = c .before .loop in let s₀ = c .before .before .args .s .now in (omega arith, (ap (λ (t : List ℕ). set t (l .i) 0) (l .inv .1 .0) ∙ fill-more (l .i) 0 s₀ (omega arith), length-set (l .s) (l .i) 0 ∙ l .inv .1 .1))
 
--- src/lib.rt:41:1
-same-length : tie.Need-same-length Inv-loop μ-loop
-same-length c = search needs
-
--- src/lib.rt:41:1
 returns : tie.Need-returns Inv-loop μ-loop
 returns c = let l = c .before .loop in let s₀ = c .before .before .args .s .now in l .inv .1 .0 ∙ all-of (replicate (l .i) 0) s₀ (l .i) (omega arith) ∙ ap (λ (n : ℕ). replicate n 0) (le-antisymm (l .inv .0) (omega arith))
 
@@ -56,10 +42,10 @@ zero-spec =
     (tie.spec
     Inv-loop
     μ-loop
-    loop-holds
+    (λ c. search needs)
     slice-write-s
     add-i
     loop-less
     loop-again
-    same-length
+    (λ c. search needs)
     returns)
