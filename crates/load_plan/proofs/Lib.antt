@@ -1,0 +1,4 @@
+pub mod Opening
+pub mod Order
+pub mod Table
+pub mod Accept
