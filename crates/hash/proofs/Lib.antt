@@ -1,2 +1,5 @@
 pub mod Forms
 pub mod Laws
+pub mod Turns
+pub mod Pigeon
+pub mod Finding
