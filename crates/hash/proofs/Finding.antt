@@ -1,19 +1,16 @@
 -- Found: in a well-formed table the lookup finds a symbol exactly when the search through all symbols but number 0 does, and
 -- the one that it finds has the name.
 -- Assumes nothing.
-use Prim.Native.Nat.{ℕ, zero, suc, _+_, _*_, _-_, _%_, _^_, _<_, _≤_}
-use native.Mathlib.Nat.{add-zero, add-suc, mod-lt, eq-or-lt-of-le}
+use Prim.Native.Nat.{ℕ, zero, suc, _+_, _*_, _-_, _%_, _<_, _≤_}
+use native.Mathlib.Nat.{add-zero, add-suc, mod-lt}
 use native.Mathlib.Omega.{arith}
-use mathlib.Core.Path.{_≡_, refl, sym, ap, _∙_}
-use mathlib.Core.Logic.{⊎-elim}
+use mathlib.Core.Path.{_≡_, refl, sym, _∙_}
 use mathlib.Core.Bool.{Bool, true, false, cond, _&&_, _||_}
 use mathlib.Core.List.{List}
 use lib.ListN.{length}
 use lib.Dec.{eqb, leb}
-use borrow.Author.Tests.{eqb-true, eqb-false, eq-eqb, ne-eqb, leb-false, lt-leb}
-use Rattle.endian.specs.Range.{noFault, answer}
+use borrow.Author.Tests.{eqb-true, eqb-false, ne-eqb, leb-false, lt-leb}
 use Rattle.endian.specs.Place.{sizeOf, symbol}
-use Rattle.endian.specs.declared.Fault.{Fault}
 use Rattle.endian.specs.declared.Order.{Order}
 use Rattle.endian.specs.declared.Class.{Class}
 use Rattle.parse.specs.Entry.{entryFault, countOf}
@@ -25,12 +22,11 @@ use Rattle.string_table.specs.Text.{textFault, textAt, sameBytes}
 use Rattle.string_table.proofs.Search.{first-nothing, first-at}
 use Rattle.string_table.proofs.Laws.{same-equal, same-known}
 use Rattle.hash.specs.Sysv.{sysvHash}
-use Rattle.hash.specs.Table.{bucketCount, chainCount, hashFault, bucketAt, chainAt}
+use Rattle.hash.specs.Table.{bucketCount, chainCount, hashFault, chainAt}
 use Rattle.hash.specs.Find.{symbolCount, nameOf, nextOf, turnOf, afterTurn, walkOf, startOf, findOf}
-use Rattle.hash.specs.Formed.{linkFrom, linkAt, bucketOf, Listed, WellFormed, isNamed, searchOf, Finds}
+use Rattle.hash.specs.Formed.{linkAt, Listed, WellFormed, isNamed, searchOf, Finds}
 use Rattle.hash.specs.declared.Turn.{Turn}
 use Rattle.hash.specs.declared.Turn.the-variants.{Next, Same, Fails}
-use Rattle.hash.specs.declared.Lookup.{Lookup}
 use Rattle.hash.specs.declared.Lookup.the-variants.{At, Nothing, Refused}
 use Rattle.hash.proofs.Laws.{size-room, head-small}
 use Rattle.hash.proofs.Pigeon.{pigeons}

@@ -24,15 +24,14 @@ use Rattle.string_table.specs.Text.{textFault, textAt, sameBytes, compared}
 use Rattle.string_table.specs.declared.Compared.{Compared}
 use Rattle.string_table.specs.declared.Compared.the-variants.{Same as Equal, Other, Refused as Unread}
 use Rattle.hash.specs.Sysv.{sysvHash}
-use Rattle.hash.specs.Table.{bucketCount, chainCount, chainPlace, orElse, hashFault, headOf, bucketAt, chainAt}
-use Rattle.hash.specs.Find.{symbolCount, nameOf, nextOf, turnOf, afterTurn, walkOf, startOf, findOf}
+use Rattle.hash.specs.Table.{bucketCount, chainCount, chainPlace, orElse, hashFault, headOf}
+use Rattle.hash.specs.Find.{nameOf, nextOf, turnOf, afterTurn, walkOf, startOf, findOf}
 use Rattle.hash.specs.declared.Head.{Head}
-use Rattle.hash.specs.declared.GotHead.{GotHead}
 use Rattle.hash.specs.declared.GotHead.the-variants.{Is, Refused as HeadRefused}
 use Rattle.hash.specs.declared.Turn.{Turn}
 use Rattle.hash.specs.declared.Turn.the-variants.{Next, Same, Fails}
 use Rattle.hash.specs.declared.Lookup.{Lookup}
-use Rattle.hash.specs.declared.Lookup.the-variants.{At, Nothing, Refused}
+use Rattle.hash.specs.declared.Lookup.the-variants.{Nothing, Refused}
 
 -- a fault with the number 0 is none
 numberless : (f : Fault) → f .number ≡ 0 → f ≡ noFault

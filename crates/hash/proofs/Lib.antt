@@ -3,3 +3,4 @@ pub mod Laws
 pub mod Turns
 pub mod Pigeon
 pub mod Finding
+pub mod Sample
