@@ -1,2 +1,5 @@
 pub mod Laws
 pub mod Pieces
+pub mod Segments
+pub mod Table
+pub mod Finish

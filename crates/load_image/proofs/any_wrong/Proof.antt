@@ -10,10 +10,6 @@ use Rattle.load_rules.proofs.Tests.{none-more, some-at}
 use Rattle.load_image.specs.Carry.{wrong, wrongAt}
 use Rattle.load_image.proofs.any_wrong.Statement.{statement}
 use Rattle.load_image.proofs.any_wrong.Tie as tie
-use Rattle.load_image.proofs.any_wrong.Reads as reads
-use Rattle.load_image.proofs.any_wrong.Lts as lts
-use Rattle.load_image.proofs.is_wrong.Reads as is-wrong-reads
-use Rattle.records.proofs.record_at.Reads as record-at-reads
 
 abbrev Inv-loop : tie.InvT-loop
 Inv-loop d w flen t n k₀ k = (k ≤ n) × (anyBelow (wrongAt d w flen t) k ≡ false)
@@ -21,20 +17,13 @@ Inv-loop d w flen t n k₀ k = (k ≤ n) × (anyBelow (wrongAt d w flen t) k ≡
 abbrev μ-loop : tie.MeasureT-loop
 μ-loop d w flen t n k₀ k = n - k
 
--- src/lib.rt:34:5
 loop-holds : tie.Need-loop-holds Inv-loop μ-loop
 unfolding anyBelow
 loop-holds c = (omega arith, refl)
 
--- src/lib.rt:35:13
 record-at-requires : tie.Need-record-at-requires Inv-loop μ-loop
 record-at-requires c κs = omega arith
 
--- src/lib.rt:36:12
-is-wrong-requires : tie.Need-is-wrong-requires Inv-loop μ-loop
-is-wrong-requires c κs = search needs
-
--- src/lib.rt:37:13
 returns : tie.Need-returns Inv-loop μ-loop
 unfolding wrongAt
 returns c =
@@ -42,15 +31,12 @@ returns c =
     let l = c .before .before .before .before .loop in
     sym (some-at (wrongAt (a .d) (a .w) (a .flen) (a .t .now)) (a .n) (l .k) (ap (wrong (a .d) (a .w) (a .flen)) (sym (c .before .before .record-at .ensures)) ∙ sym (c .before .is-wrong .ensures) ∙ c .if1 .taken) (omega arith))
 
--- src/lib.rt:39:9
 add-k : tie.Need-add-k Inv-loop μ-loop
 add-k c = omega arith
 
--- src/lib.rt:34:5
 loop-less : tie.Need-loop-less Inv-loop μ-loop
 loop-less c = omega arith
 
--- src/lib.rt:34:5
 loop-again : tie.Need-loop-again Inv-loop μ-loop
 unfolding wrongAt
 loop-again c =
@@ -58,7 +44,6 @@ loop-again c =
     let l = c .before .before .before .before .loop in
     (omega arith, none-more (wrongAt (a .d) (a .w) (a .flen) (a .t .now)) (l .k) (l .inv .1) (ap (wrong (a .d) (a .w) (a .flen)) (sym (c .before .before .record-at .ensures)) ∙ sym (c .before .is-wrong .ensures) ∙ c .if1 .left))
 
--- src/lib.rt:29:1
 returns-2 : tie.Need-returns-2 Inv-loop μ-loop
 returns-2 c =
     let a = c .before .before .before .args in
@@ -73,7 +58,7 @@ any-wrong-spec =
     μ-loop
     loop-holds
     record-at-requires
-    is-wrong-requires
+    (λ c κs. search needs)
     returns
     add-k
     loop-less

@@ -4,15 +4,10 @@ use native.Mathlib.Nat.{le-antisymm}
 use native.Mathlib.Omega.{arith}
 use mathlib.Core.Path.{_≡_, refl, sym, ap, _∙_}
 use lib.ListN.{length}
-use borrow.Author.Needs.{needs}
 use Rattle.load_image.specs.Carry.{carriedBelow, Fitted}
 use Rattle.load_image.proofs.Laws.{sound, carry-turn}
 use Rattle.load_image.proofs.carry_all.Statement.{statement}
 use Rattle.load_image.proofs.carry_all.Tie as tie
-use Rattle.load_image.proofs.carry_all.Reads as reads
-use Rattle.load_image.proofs.carry_all.Lts as lts
-use Rattle.load_image.proofs.carry_one.Reads as carry-one-reads
-use Rattle.records.proofs.record_at.Reads as record-at-reads
 
 abbrev Inv-loop : tie.InvT-loop
 Inv-loop f t n m₀ start k₀ m k = (k ≤ n) × ((m ≡ carriedBelow start f t k m₀) × (length m ≡ length m₀))
@@ -20,16 +15,13 @@ Inv-loop f t n m₀ start k₀ m k = (k ≤ n) × ((m ≡ carriedBelow start f t
 abbrev μ-loop : tie.MeasureT-loop
 μ-loop f t n m₀ start k₀ m k = n - k
 
--- src/lib.rt:84:5
 loop-holds : tie.Need-loop-holds Inv-loop μ-loop
 unfolding carriedBelow
 loop-holds c = (omega arith, (refl, refl))
 
--- src/lib.rt:85:13
 record-at-requires : tie.Need-record-at-requires Inv-loop μ-loop
 record-at-requires c κs = let d = c .before .before .before .before .before in omega (arith, sound _ _ _ _ _ (d .pre) .holds)
 
--- src/lib.rt:86:9
 carry-one-requires : tie.Need-carry-one-requires Inv-loop μ-loop
 carry-one-requires c κs =
     let d = c .before .before .before .before .before .before .before in
@@ -37,15 +29,12 @@ carry-one-requires c κs =
     let l = c .before .before .before .loop in
     rw (c .before .record-at .ensures, l .inv .1 .1, s .memory-is) (s .fitted (l .k) (c .before .before .loop-test .taken))
 
--- src/lib.rt:87:9
 add-k : tie.Need-add-k Inv-loop μ-loop
 add-k c = omega arith
 
--- src/lib.rt:84:5
 loop-less : tie.Need-loop-less Inv-loop μ-loop
 loop-less c = omega arith
 
--- src/lib.rt:84:5
 loop-again : tie.Need-loop-again Inv-loop μ-loop
 loop-again c =
     let a = c .before .before .before .before .before .before .before .before .before .before .args in
@@ -57,11 +46,9 @@ loop-again c =
       ),
     )
 
--- src/lib.rt:78:1
 same-length : tie.Need-same-length Inv-loop μ-loop
 same-length c = c .before .loop .inv .1 .1
 
--- src/lib.rt:78:1
 returns : tie.Need-returns Inv-loop μ-loop
 returns c =
     let a = c .before .before .before .before .before .args in

@@ -1,31 +1,16 @@
+-- `load_image::carry_out` meets its contract: all records, or nothing. Assumes nothing.
+use mathlib.Core.Path.{refl, sym, _∙_}
+use borrow.Author.Tests.{eq-eqb, ne-eqb}
 use borrow.Author.Needs.{needs}
 use Rattle.load_image.proofs.carry_out.Statement.{statement}
 use Rattle.load_image.proofs.carry_out.Tie as tie
-use Rattle.load_image.proofs.carry_out.Reads as reads
-use Rattle.load_image.proofs.carry_out.Lts as lts
-use Rattle.load_image.proofs.carry_all.Reads as carry-all-reads
-use Rattle.load_image.proofs.refuse.Reads as refuse-reads
 
--- src/lib.rt:100:9
-refuse-requires : tie.Need-refuse-requires
-refuse-requires c κs = search needs
-
--- src/lib.rt:102:9
-carry-all-requires : tie.Need-carry-all-requires
-carry-all-requires c κs = search needs
-
--- src/lib.rt:93:1
-same-length : tie.Need-same-length
-same-length c = search needs
-
--- src/lib.rt:93:1
 returns : tie.Need-returns
-returns c = ?
+returns c = record { answers = c .before .before .before .before .before .refuse .ensures; memory = rw (eq-eqb _ _ (c .before .before .before .before .if1 .taken)) (c .before .before .carry-all .ensures) }
 
--- src/lib.rt:93:1
 returns-2 : tie.Need-returns-2
-returns-2 c = ?
+returns-2 c = record { answers = c .before .refuse .ensures; memory = rw (ne-eqb _ _ (c .if1 .left)) }
 
 pub carry-out-spec : {M : Type 1} → statement M
 carry-out-spec =
-    tie.close (tie.spec refuse-requires carry-all-requires same-length returns returns-2)
+    tie.close (tie.spec (λ c κs. search needs) (λ c κs. search needs) (λ c. search needs) returns returns-2)

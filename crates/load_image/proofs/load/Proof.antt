@@ -1,62 +1,47 @@
+-- `load_image::load` meets its contract: the end theorem, from what `plan` and `carry_out` ensure. Assumes nothing.
+use mathlib.Core.Path.{refl, sym, _∙_}
+use borrow.Author.Tests.{eq-eqb, ne-eqb}
+use Rattle.load_plan.specs.Plan.{windowOf, Made}
+use Rattle.load_image.specs.Image.{loadAnswer}
+use Rattle.load_image.proofs.Finish.{done}
 use borrow.Author.Needs.{needs}
 use Rattle.load_image.proofs.load.Statement.{statement}
 use Rattle.load_image.proofs.load.Tie as tie
-use Rattle.load_image.proofs.load.Reads as reads
-use Rattle.load_image.proofs.load.Lts as lts
-use Rattle.load_image.proofs.carry_out.Reads as carry-out-reads
-use Rattle.load_plan.proofs.plan.Reads as plan-reads
 
--- src/lib.rt:112:13
-plan-requires : tie.Need-plan-requires
-plan-requires c κs = search needs
-
--- src/lib.rt:114:29
-enum-known-a : tie.Need-enum-known-a
-enum-known-a c = search needs
-
--- src/lib.rt:115:17
-carry-out-requires : tie.Need-carry-out-requires
-carry-out-requires c κs = search needs
-
--- src/lib.rt:116:17
-same-length : tie.Need-same-length
-same-length c = search needs
-
--- src/lib.rt:116:17
-same-length-2 : tie.Need-same-length-2
-same-length-2 c = search needs
-
--- src/lib.rt:116:17
 returns : tie.Need-returns
-returns c = ?
+unfolding loadAnswer
+returns c =
+    let a = c .before .before .before .before .before .before .before .before .before .before .before .before .before .before .before .before .args in
+    let w = windowOf (a .start) (a .len) in
+    let p = rw (c .before .before .before .before .before .before .a .given .1) at (c .before .before .before .before .before .before .before .before .before .before .plan .ensures) in
+    let e = c .before .before .before .before .before .before .before .before .before .before .before .before .if1 .taken in
+    record {
+      answers = rw (eq-eqb _ _ e) (p .answers);
+      table-is = p .table;
+      memory-is = done (a .f .now) w (a .table .now) _ _ p (a .m .now) _ (c .before .before .carry-out .result) e (c .before .before .carry-out .ensures);
+    }
 
--- src/lib.rt:118:29
-enum-known-a-2 : tie.Need-enum-known-a-2
-enum-known-a-2 c = search needs
-
--- src/lib.rt:119:17
-same-length-3 : tie.Need-same-length-3
-same-length-3 c = search needs
-
--- src/lib.rt:119:17
 returns-2 : tie.Need-returns-2
-returns-2 c = ?
+unfolding loadAnswer
+returns-2 c =
+    let p = rw (c .before .a2 .given .1) at (c .before .before .before .before .before .plan .ensures) in
+    record { answers = rw (eq-eqb _ _ (c .before .before .before .before .before .before .before .if1 .taken)) (p .answers); table-is = p .table; memory-is = refl }
 
--- src/lib.rt:108:1
 returns-3 : tie.Need-returns-3
-returns-3 c = ?
+unfolding loadAnswer
+returns-3 c = record { answers = rw (ne-eqb _ _ (c .if1 .left)); table-is = refl; memory-is = refl }
 
 pub load-spec : {M : Type 1} → statement M
 load-spec =
     tie.close
     (tie.spec
-    plan-requires
-    enum-known-a
-    carry-out-requires
-    same-length
-    same-length-2
+    (λ c κs. search needs)
+    (λ c. search needs)
+    (λ c κs. search needs)
+    (λ c. search needs)
+    (λ c. search needs)
     returns
-    enum-known-a-2
-    same-length-3
+    (λ c. search needs)
+    (λ c. search needs)
     returns-2
     returns-3)

@@ -1,46 +1,40 @@
+-- `load_image::refuse` meets its contract: the first test that holds decides. Assumes nothing.
+use native.Mathlib.Omega.{arith}
+use mathlib.Core.Path.{sym, _∙_}
+use borrow.Author.Tests.{lt-ltb, le-ltb, eq-eqb, ne-eqb}
+use Rattle.load_image.specs.Carry.{carryNumber}
 use borrow.Author.Needs.{needs}
 use Rattle.load_image.proofs.refuse.Statement.{statement}
 use Rattle.load_image.proofs.refuse.Tie as tie
-use Rattle.load_image.proofs.refuse.Reads as reads
-use Rattle.load_image.proofs.refuse.Lts as lts
-use Rattle.load_image.proofs.any_wrong.Reads as any-wrong-reads
 
--- src/lib.rt:49:9
 returns : tie.Need-returns
-returns c = ?
+unfolding carryNumber
+returns c = rw (lt-ltb _ _ (c .if1 .taken))
 
--- src/lib.rt:52:12
-any-wrong-requires : tie.Need-any-wrong-requires
-any-wrong-requires c κs = search needs
-
--- src/lib.rt:53:13
 returns-2 : tie.Need-returns-2
-returns-2 c = ?
+unfolding carryNumber
+returns-2 c = rw (le-ltb _ _ (c .before .before .before .before .if1 .left), eq-eqb _ _ (c .before .before .if2 .taken), sym (c .before .any-wrong .ensures) ∙ c .if3 .taken)
 
--- src/lib.rt:55:12
-any-wrong-requires-2 : tie.Need-any-wrong-requires-2
-any-wrong-requires-2 c κs = search needs
-
--- src/lib.rt:56:13
 returns-3 : tie.Need-returns-3
-returns-3 c = ?
+unfolding carryNumber
+returns-3 c = rw (le-ltb _ _ (c .before .before .before .before .before .before .if1 .left), eq-eqb _ _ (c .before .before .before .before .if2 .taken), sym (c .before .before .before .any-wrong .ensures) ∙ c .before .before .if3 .left, sym (c .before .any-wrong2 .ensures) ∙ c .if4 .taken)
 
--- src/lib.rt:58:9
 returns-4 : tie.Need-returns-4
-returns-4 c = ?
+unfolding carryNumber
+returns-4 c = rw (le-ltb _ _ (c .before .before .before .before .before .before .if1 .left), eq-eqb _ _ (c .before .before .before .before .if2 .taken), sym (c .before .before .before .any-wrong .ensures) ∙ c .before .before .if3 .left, sym (c .before .any-wrong2 .ensures) ∙ c .if4 .left)
 
--- src/lib.rt:45:1
 returns-5 : tie.Need-returns-5
-returns-5 c = ?
+unfolding carryNumber
+returns-5 c = rw (le-ltb _ _ (c .before .before .if1 .left), ne-eqb _ _ (c .if2 .left))
 
 pub refuse-spec : {M : Type 1} → statement M
 refuse-spec =
     tie.close
     (tie.spec
     returns
-    any-wrong-requires
+    (λ c κs. search needs)
     returns-2
-    any-wrong-requires-2
+    (λ c κs. search needs)
     returns-3
     returns-4
     returns-5)
