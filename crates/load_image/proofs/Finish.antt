@@ -25,10 +25,10 @@ module _ (f : List ℕ) (w : Window) (table table′ : List ℕ) (n : ℕ) (p : 
   pub begins : Begins f w (length table) n
   begins = planned f w (length table) n (p .answers)
 
-  rest : List ℕ
+  pub rest : List ℕ
   rest = drop (48 * length (planOf f w)) table
 
-  table-is : table′ ≡ tableBytes (planIn f w (begins .job)) ++ rest
+  pub table-is : table′ ≡ tableBytes (planIn f w (begins .job)) ++ rest
   unfolding rest
   table-is = p .table ∙ ap (λ (rs : List Record). tableBytes rs ++ drop (48 * length (planOf f w)) table) (begins .plan-is)
 

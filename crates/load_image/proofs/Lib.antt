@@ -3,3 +3,4 @@ pub mod Pieces
 pub mod Segments
 pub mod Table
 pub mod Finish
+pub mod Theorems

@@ -17,10 +17,11 @@ use Rattle.load_rules.specs.Rules.{anyBelow, real, unfit, executable, writable,
 use Rattle.load_rules.specs.Facts.{Good, Placed}
 use Rattle.load_rules.specs.declared.Window.{Window}
 use Rattle.load_rules.proofs.Tests.{and-true, nand-false, none-at, found}
-use Rattle.load_plan.specs.Plan.{segAt, test, testAt, endBelow, crossed}
+use Rattle.load_plan.specs.Plan.{segAt, test, testAt, clashWith, clashAt}
 use Rattle.load_plan.specs.Facts.{Accepted}
 use Rattle.load_plan.specs.declared.Job.{Job}
 use Rattle.load_plan.proofs.Order.{placed-at}
+use Rattle.load_plan.proofs.Clash.{clash-apart}
 use Rattle.load_image.specs.Carry.{Fitted}
 use Rattle.load_image.specs.Pieces.{pieceByte, Neat}
 use Rattle.load_image.specs.Image.{byteOf, On, SafeSegments, entryOf}
@@ -120,30 +121,11 @@ module _ (f : List ℕ) (j : Job) (w : Window) (room : ℕ) (acc : Accepted f j 
 
   -- ---- order
 
-  end-first : (k : ℕ) → k < j .count → real (segAt f j k) ≡ true → endBelow (segAt f j) (low (j .kind) w) k ≤ first (segAt f j k)
-  unfolding crossed
-  end-first k lt r =
-      let e = endBelow (segAt f j) (low (j .kind) w) k in
-      let c : crossed (segAt f j) (low (j .kind) w) k ≡ false = none-at (crossed (segAt f j) (low (j .kind) w)) (j .count) k (acc .ordered) lt in
-      let t : ltb (first (segAt f j k)) e ≡ false = ap (λ (b : Bool). b && ltb (first (segAt f j k)) e) (sym r) ∙ c in
-      ltb-false (first (segAt f j k)) e t
-
-  below-end : (k : ℕ) → k ≤ j .count → (i : ℕ) → i < k → real (segAt f j i) ≡ true → last (segAt f j i) ≤ endBelow (segAt f j) (low (j .kind) w) k
-  unfolding endBelow
-  below-end zero hk i lt r = absurd (not-suc-le-zero lt)
-  below-end (suc k) hk i lt r = go (below-end k (omega arith) i) (real (segAt f j k)) refl (eq-or-lt-of-le (le-of-suc-le-suc lt))
-    where
-      go : (i < k → real (segAt f j i) ≡ true → last (segAt f j i) ≤ endBelow (segAt f j) (low (j .kind) w) k) → (b : Bool) → real (segAt f j k) ≡ b → (i ≡ k) ⊎ (i < k)
-          → last (segAt f j i) ≤ cond b (last (segAt f j k)) (endBelow (segAt f j) (low (j .kind) w) k)
-      go ih true e = ⊎-elim
-          (λ q. rw q (omega arith))
-          (λ lt′. let b = bounds (length f) (low (j .kind) w) w (segAt f j k) (sits k hk e) in omega (arith, ih lt′ r, end-first k hk e, b .start, b .stop))
-      go ih false e = ⊎-elim
-          (λ q. absurd (true≢false (sym r ∙ ap (λ (x : ℕ). real (segAt f j x)) q ∙ e)))
-          (λ lt′. ih lt′ r)
-
   pub apart : (i k : ℕ) → i < k → k < j .count → real (segAt f j i) ≡ true → real (segAt f j k) ≡ true → last (segAt f j i) ≤ first (segAt f j k)
-  apart i k lt hk ri rk = le-trans (below-end k (omega arith) i lt ri) (end-first k hk rk)
+  unfolding clashAt clashWith
+  apart i k lt hk ri rk =
+      clash-apart (segAt f j i) (segAt f j k) ri rk
+      (none-at (clashWith (segAt f j) k) k i (none-at (clashAt (segAt f j)) (j .count) k (acc .ordered) hk) lt)
 
   -- ---- the promises of the segments
 

@@ -2,6 +2,7 @@
 -- pieceByte f r a    the byte that a record puts at an address of its pages: a byte of the file, or zero
 -- Neat, Pieces       a record whose bytes lie in its pages, in the memory and in the file; n records of a table that are so and lie apart
 -- Same t n t′ n′     two tables hold the same records, whatever their order
+-- Shuffled t t′ n     the n records of t′ are those of t in another order
 -- Assumes nothing.
 use Prim.Native.Nat.{ℕ, _+_, _-_, _≤_, _<_}
 use mathlib.Core.Path.{_≡_}
@@ -29,3 +30,12 @@ pub record Pieces (start mlen flen : ℕ) (t : List ℕ) (n : ℕ) : Type 0 wher
 pub record Same (t : List ℕ) (n : ℕ) (t′ : List ℕ) (n′ : ℕ) : Type 0 where
   pub there : (k : ℕ) → k < n → (i : ℕ) × (i < n′) × (recordAt t k ≡ recordAt t′ i)
   pub back : (k : ℕ) → k < n′ → (i : ℕ) × (i < n) × (recordAt t′ k ≡ recordAt t i)
+
+pub record Shuffled (t t′ : List ℕ) (n : ℕ) : Type 0 where
+  pub to : ℕ → ℕ
+  pub from : ℕ → ℕ
+  pub to-below : (k : ℕ) → k < n → to k < n
+  pub from-below : (k : ℕ) → k < n → from k < n
+  pub left : (k : ℕ) → k < n → from (to k) ≡ k
+  pub right : (k : ℕ) → k < n → to (from k) ≡ k
+  pub is : (k : ℕ) → k < n → recordAt t′ k ≡ recordAt t (to k)

@@ -11,7 +11,7 @@ use borrow.Author.Tests.{not-false, ltb-false, eqb-true, eq-eqb, ne-eqb}
 use Rattle.endian.specs.Range.{noFault}
 use Rattle.endian.specs.declared.Fault.{Fault}
 use Rattle.records.specs.declared.Record.{Record}
-use Rattle.load_rules.specs.Rules.{anyBelow, low, goodWindow}
+use Rattle.load_rules.specs.Rules.{anyBelow, goodWindow}
 use Rattle.load_rules.specs.declared.Window.{Window}
 use Rattle.load_plan.specs.declared.Job.{Job}
 use Rattle.load_plan.specs.declared.Begun.{Begun}
@@ -19,7 +19,7 @@ use Rattle.load_plan.specs.declared.Begun.the-variants as begun
 use Rattle.load_plan.specs.declared.Refusal.{Refusal}
 use Rattle.load_plan.specs.declared.Answer.{Answer}
 use Rattle.load_plan.specs.declared.Answer.the-variants.{Planned, Refused}
-use Rattle.load_plan.specs.Plan.{segAt, some, crossed, other, tests, planIn, planOf, recordsIn, numberOf, refusalIn, refusalOf, answerOf, begunOf, tableAfter, Made}
+use Rattle.load_plan.specs.Plan.{segAt, some, clashAt, other, tests, planIn, planOf, recordsIn, numberOf, refusalIn, refusalOf, answerOf, begunOf, tableAfter, Made}
 use Rattle.load_plan.specs.Facts.{Held, Accepted, Filled}
 use Rattle.load_plan.proofs.Opening.{held}
 
@@ -36,7 +36,7 @@ accepted f j w room h e =
     let p4 = pass (some f j w 23) 23 _ (omega arith) (p3 .1) in
     let p5 = pass (not (goodWindow w)) 24 _ (omega arith) (p4 .1) in
     let p6 = pass (some f j w 24) 24 _ (omega arith) (p5 .1) in
-    let p7 = pass (anyBelow (crossed (segAt f j) (low (j .kind) w)) (j .count)) 25 _ (omega arith) (p6 .1) in
+    let p7 = pass (anyBelow (clashAt (segAt f j)) (j .count)) 25 _ (omega arith) (p6 .1) in
     let p8 = pass (some f j w 26) 26 _ (omega arith) (p7 .1) in
     let p9 = pass (not (some f j w 27)) 27 _ (omega arith) (p8 .1) in
     let p10 = pass (ltb room (48 * length (planIn f w j))) 14 _ (omega arith) (p9 .1) in
