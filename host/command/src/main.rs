@@ -1,6 +1,7 @@
-//! The command loadplan.
-fn main() {
-    for f in std::env::args().skip(1) {
-        print!("{}", loadplan_command::ask::ask(&std::fs::read(f).unwrap(), false));
-    }
+//! The command loadplan: what it does stands in the library beside this file.
+
+use std::process::ExitCode;
+
+fn main() -> ExitCode {
+    loadplan_command::command(std::env::args_os().skip(1))
 }
