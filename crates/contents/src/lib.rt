@@ -62,7 +62,7 @@ pub fn section_at(d: &[u8], i: usize) -> GotSectionHeader
 }
 
 // Program header i, likewise.
-fn segment_in(elf: Elf, d: &[u8], i: usize) -> GotProgramHeader
+pub fn segment_in(elf: Elf, d: &[u8], i: usize) -> GotProgramHeader
     requires { ⌜ Whole (now d) elf ⌝ }
     ensures { λ r. ⌜ r ≡ segmentIn (now (d .entry)) elf i ⌝ }
 {
@@ -160,7 +160,10 @@ pub fn dynamic_data(d: &[u8], kind: u32, offset: usize, size: usize, entsize: us
     let o = elf_bytes::open(d);
     match o {
         Opened::Refused(f) => GotRange::Refused(f),
-        Opened::Is(elf) => dynamic_in(elf.class, d, kind, offset, size, entsize),
+        Opened::Is(elf) => {
+            let class = elf.class;
+            dynamic_in(class, d, kind, offset, size, entsize)
+        }
     }
 }
 

@@ -9,6 +9,7 @@ use lib.ListN.{length}
 use lib.Dec.{leb, eqb}
 use borrow.Author.Tests.{leb-true, leb-false, eqb-true}
 use Rattle.parse.specs.Entry.{rangeOf}
+use Rattle.parse.specs.declared.Range.{Range}
 use Rattle.endian.specs.Range.{faulty, noFault, faultAt, answer}
 use Rattle.endian.specs.Place.{sizeOf, file-header, section-header, program-header}
 use Rattle.endian.specs.declared.Fault.{Fault}
@@ -112,3 +113,7 @@ opened s elf e = identified (identOf s) e
     identified : (i : Ident) → openIn s i ≡ answer-is.Is elf → Whole s elf
     identified (ident.Refused f) q = let z : _≡_ {A = ℕ} 0 1 = cc in absurd (omega arith)
     identified (ident.Is c o) q = pick (headerAt c o s) (leb (sizeOf file-header c) (length s)) q
+
+-- the bounds of a table that is there
+pub tabled-at : (s : List ℕ) (t : Table) (r : Range) → Tabled s t → t ≡ At r → (r .from ≤ r .to) × (r .to ≤ length s)
+tabled-at s t r h e = rw e at h

@@ -1,0 +1,4 @@
+pub mod Sysv
+pub mod Table
+pub mod Find
+pub mod Formed

@@ -1,0 +1,4 @@
+-- The crate's definitions, a file each.
+-- Assumes nothing.
+pub mod Rows
+pub mod Headers

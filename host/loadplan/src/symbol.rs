@@ -1,0 +1,54 @@
+//! Symbols.
+
+use crate::abi;
+use crate::parse::{entry_of_a_table, ParsingTable};
+
+/// The symbols of a section.
+pub type SymbolTable<'data, E> = ParsingTable<'data, E, Symbol>;
+
+/// A symbol.
+#[derive(Clone, Copy, Debug, PartialEq, Eq)]
+pub struct Symbol {
+    /// Where its name starts in the strings of its table.
+    pub st_name: u32,
+    pub st_shndx: u16,
+    pub st_info: u8,
+    pub st_other: u8,
+    pub st_value: u64,
+    pub st_size: u64,
+}
+
+impl Symbol {
+    fn of(values: &[u64]) -> Self {
+        Symbol {
+            st_name: values[0] as u32,
+            st_shndx: values[1] as u16,
+            st_info: values[2] as u8,
+            st_other: values[3] as u8,
+            st_value: values[4],
+            st_size: values[5],
+        }
+    }
+
+    /// Whether the symbol is defined elsewhere: it belongs to no section.
+    pub fn is_undefined(&self) -> bool {
+        self.st_shndx == abi::SHN_UNDEF
+    }
+
+    /// The type: the low four bits of `st_info`.
+    pub fn st_symtype(&self) -> u8 {
+        self.st_info % 16
+    }
+
+    /// The binding: the high four bits of `st_info`.
+    pub fn st_bind(&self) -> u8 {
+        self.st_info / 16
+    }
+
+    /// The visibility: the low two bits of `st_other`.
+    pub fn st_vis(&self) -> u8 {
+        self.st_other % 4
+    }
+}
+
+entry_of_a_table!(Symbol, 6 values, 16 or 24 bytes, symbol, symbols);
