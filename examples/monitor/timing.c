@@ -9,6 +9,7 @@
 
 enum { RECORDS = 16 };
 
+static uint8_t memory[WINDOW_LENGTH];
 static uint64_t plan_cycles, carry_out_cycles;
 
 void time_apart(const struct card *card, uint64_t start)
@@ -17,8 +18,7 @@ void time_apart(const struct card *card, uint64_t start)
     uint64_t begin = cycles();
     struct loadplan_planned planned = loadplan_plan(card->file, card->length, start, WINDOW_LENGTH, table, sizeof table);
     uint64_t middle = cycles();
-    loadplan_carry_out(card->file, card->length, start, WINDOW_LENGTH, table, sizeof table, planned.records, (uint8_t *)start,
-                       WINDOW_LENGTH);
+    loadplan_carry_out(card->file, card->length, start, WINDOW_LENGTH, table, sizeof table, planned.records, memory, sizeof memory);
     uint64_t end = cycles();
     plan_cycles = middle - begin;
     carry_out_cycles = end - middle;

@@ -6,8 +6,8 @@
 
 #include "card.h"
 
-/* Plans and carries out once more, apart, and keeps the cycles of each. The window, which must hold what loadplan_load
- * just put there, is the same afterwards: the same bytes go to the same places. */
+/* Does what loadplan_load does in two steps, planning for the window at `start` and carrying out into memory of its own,
+ * and keeps the cycles of each. */
 void time_apart(const struct card *card, uint64_t start);
 
 /* Prints the cycles of the last card that was loaded, and those from the machine's reset to the first output. */
