@@ -11,32 +11,12 @@
 #include "machine.h"
 #include "monitor.h"
 #include "paging.h"
+#include "report.h"
 #include "serial.h"
 #include "timing.h"
 #include "traps.h"
 
-enum { RECORDS = 16, ALL_WELL = 0x10, MONITOR_CHANGED = 2 };
-
-/* A checksum of words of 8 bytes. Over a window it tells whether a refusal touched it; over the monitor, from its first
- * byte of code to the last page table that stands still, whether anything did. */
-static uint64_t checksum(const void *from, const void *to)
-{
-    uint64_t sum = 0xcbf29ce484222325;
-    for (const uint64_t *at = from; at < (const uint64_t *)to; at++)
-        sum = (sum ^ *at) * 0x100000001b3;
-    return sum;
-}
-
-static uint64_t monitor_checksum(void)
-{
-    return checksum(monitor_start, monitor_still_end);
-}
-
-static uint64_t window_checksum(uint64_t window)
-{
-    const uint8_t *start = (const uint8_t *)window_start[window];
-    return checksum(start, start + WINDOW_LENGTH);
-}
+enum { ALL_WELL = 0x10, MONITOR_CHANGED = 2 };
 
 static uint64_t number_in(const uint8_t *record, enum loadplan_record field)
 {
@@ -54,40 +34,17 @@ static void protect(uint64_t window, const uint8_t *table, uint64_t records)
         uint64_t page = number_in(record, LOADPLAN_RECORD_PAGE), length = number_in(record, LOADPLAN_RECORD_LENGTH);
         uint64_t flags = number_in(record, LOADPLAN_RECORD_FLAGS);
         window_give(page, length, flags);
-        print("  ");
-        print_hex(page);
-        print(" + ");
-        print_hex(length);
-        print(flags & 4 ? " r" : " -");
-        print(flags & 2 ? "w" : "-");
-        print(flags & 1 ? "x\n" : "-\n");
+        report_pages(page, length, flags);
     }
 }
 
+/* Of a card that was loaded: what loads also opens. */
 static uint64_t entry_point(const struct card *card)
 {
     enum { TYPE = 5, ENTRY = 7, POSITION_INDEPENDENT = 3 };
-    uint64_t header[23];
+    uint64_t header[23] = {0};
     loadplan_open(card->file, card->length, header);
     return header[ENTRY] + (header[TYPE] == POSITION_INDEPENDENT ? window_start[card->window] : 0);
-}
-
-static void report_outcome(const struct outcome *outcome)
-{
-    if (!outcome->faulted) {
-        print("  ended with status ");
-        print_decimal(outcome->status);
-    } else {
-        print("  fault ");
-        print_decimal(outcome->vector);
-        print(", error ");
-        print_decimal(outcome->error);
-        print(", address ");
-        print_hex(outcome->address);
-        print(", instruction ");
-        print_hex(outcome->instruction);
-    }
-    print("\n");
 }
 
 static void run(const struct card *card)
@@ -97,20 +54,9 @@ static void run(const struct card *card)
     report_outcome(&outcome);
 }
 
-static void report_refusal(struct loadplan_planned planned, bool window_as_it_was)
-{
-    print("refused ");
-    print_decimal(planned.refusal);
-    if (planned.reader != 0) {
-        print(", reader ");
-        print_decimal(planned.reader);
-    }
-    print(window_as_it_was ? "; window as it was\n" : "; WINDOW CHANGED\n");
-}
-
 static void load_and_run(const struct card *card)
 {
-    uint8_t table[RECORDS * LOADPLAN_RECORD_SIZE];
+    uint8_t table[MOST_SEGMENTS * LOADPLAN_RECORD_SIZE];
     uint64_t start = window_start[card->window];
     window_for_loading(card->window);
     uint64_t before = window_checksum(card->window);
@@ -128,17 +74,11 @@ static void serve(const struct tray *tray, uint64_t number)
 {
     struct card card;
     const char *wrong = card_read(tray, number, &card);
-    print("card ");
-    print_decimal(number);
-    print(" (");
-    print(card.label);
-    print("): ");
-    if (wrong != 0) {
-        print(wrong);
-        print("\n");
-    } else {
-        load_and_run(&card);
-    }
+    report_card(number, card.label);
+    if (wrong == 0)
+        return load_and_run(&card);
+    print(wrong);
+    print("\n");
 }
 
 void monitor_main(void)

@@ -86,6 +86,7 @@ static uint64_t *table_of(uint64_t address)
     return address / LARGE_PAGE == STACK / LARGE_PAGE ? stack_pages : 0;
 }
 
+/* The page is in a window: a plan has no others. */
 void window_give(uint64_t page, uint64_t length, uint64_t flags)
 {
     uint64_t bits = PRESENT | PROGRAM;

@@ -7,14 +7,12 @@
 #include "serial.h"
 #include "traps.h"
 
-enum { RECORDS = 16 };
-
 static uint8_t memory[WINDOW_LENGTH];
 static uint64_t plan_cycles, carry_out_cycles;
 
 void time_apart(const struct card *card, uint64_t start)
 {
-    uint8_t table[RECORDS * LOADPLAN_RECORD_SIZE];
+    uint8_t table[MOST_SEGMENTS * LOADPLAN_RECORD_SIZE];
     uint64_t begin = cycles();
     struct loadplan_planned planned = loadplan_plan(card->file, card->length, start, WINDOW_LENGTH, table, sizeof table);
     uint64_t middle = cycles();
@@ -35,8 +33,8 @@ static void print_time(const char *what, uint64_t count)
 
 void print_times(void)
 {
-    print_time("from reset to the monitor's first instruction", cycles_at_start);
-    print_time("from there to the first output of a program", cycles_at_first_output - cycles_at_start);
+    print_time("from reset to the first output of a program", cycles_at_first_output);
+    print_time("of these before the monitor's first instruction", cycles_at_start);
     print_time("for the plan of the last card loaded", plan_cycles);
     print_time("for carrying it out", carry_out_cycles);
 }
