@@ -1,15 +1,15 @@
 -- Both forms of the SysV hash agree: after each byte the ABI's is the low 28 bits of document 01's.
 -- Assumes nothing.
-use Prim.Native.Nat.{ℕ, zero, suc, _+_, _*_, _-_, _/_, _%_, _^_, _<_, _≤_, min}
+use Prim.Native.Nat.{ℕ, zero, suc, _+_, _*_, _-_, _/_, _%_, _^_, _<_, min}
 use native.Mathlib.Nat.{pow-suc}
 use native.Mathlib.Omega.{arith}
-use mathlib.Core.Path.{_≡_, refl, sym, ap, _∙_}
+use mathlib.Core.Path.{_≡_, refl, ap, _∙_}
 use mathlib.Core.Bool.{Bool, true, false, cond}
 use mathlib.Core.List.{List, [], _∷_}
 use lib.Bits.{bitAnd, bitXor, and-step, and-zero-l, and-high, and-block, and-mask, xor-shr, xor-zero-r}
 use lib.Dec.{eqb}
 use borrow.Author.Tests.{eqb-true}
-use Rattle.hash.specs.Sysv.{shifted, mixed, sysvStep, sysvFrom, sysvHash, folded, cleared, abiStep, abiFrom, abiHash}
+use Rattle.hash.specs.Sysv.{mixed, sysvStep, sysvFrom, sysvHash, folded, cleared, abiStep, abiFrom, abiHash}
 
 -- a number and its complement have no bit in common
 apart : (k a : ℕ) → a < 2 ^ k → bitAnd a (2 ^ k - 1 - a) ≡ 0

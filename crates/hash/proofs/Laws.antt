@@ -24,15 +24,14 @@ use Rattle.string_table.specs.Text.{textFault, textAt, sameBytes, compared}
 use Rattle.string_table.specs.declared.Compared.{Compared}
 use Rattle.string_table.specs.declared.Compared.the-variants.{Same as Equal, Other, Refused as Unread}
 use Rattle.hash.specs.Sysv.{sysvHash}
-use Rattle.hash.specs.Table.{bucketCount, chainCount, chainPlace, orElse, hashFault, headOf, bucketAt, chainAt}
-use Rattle.hash.specs.Find.{symbolCount, nameOf, nextOf, turnOf, afterTurn, walkOf, startOf, findOf}
+use Rattle.hash.specs.Table.{bucketCount, chainCount, chainPlace, orElse, hashFault, headOf}
+use Rattle.hash.specs.Find.{nameOf, nextOf, turnOf, afterTurn, walkOf, startOf, findOf}
 use Rattle.hash.specs.declared.Head.{Head}
-use Rattle.hash.specs.declared.GotHead.{GotHead}
 use Rattle.hash.specs.declared.GotHead.the-variants.{Is, Refused as HeadRefused}
 use Rattle.hash.specs.declared.Turn.{Turn}
 use Rattle.hash.specs.declared.Turn.the-variants.{Next, Same, Fails}
 use Rattle.hash.specs.declared.Lookup.{Lookup}
-use Rattle.hash.specs.declared.Lookup.the-variants.{At, Nothing, Refused}
+use Rattle.hash.specs.declared.Lookup.the-variants.{Nothing, Refused}
 
 -- a fault with the number 0 is none
 numberless : (f : Fault) → f .number ≡ 0 → f ≡ noFault
@@ -92,14 +91,28 @@ module _ (e : Order) (h : List ℕ) where
       pick true q r = r
       pick false q r = absurd (eqb-false _ _ q (ap (λ (x : Fault). x .number) r))
 
-  pub head-room : hashFault e h ≡ noFault → chainPlace e h + 4 * chainCount e h ≤ length h
+  chains-fine : hashFault e h ≡ noFault → faultAt (length h) (chainPlace e h) (4 * chainCount e h) ≡ noFault
   unfolding hashFault
-  head-room p =
+  chains-fine p =
       let a = faultAt (length h) 4 4 in
       let b = faultAt (length h) 8 (4 * bucketCount e h) in
       let f = faultAt (length h) (chainPlace e h) (4 * chainCount e h) in
-      faultless (length h) (chainPlace e h) (4 * chainCount e h) noFault
-      (sym (last-of b f (last-of a (orElse b f) (last-of (faultAt (length h) 0 4) (orElse a (orElse b f)) p)))) refl
+      last-of b f (last-of a (orElse b f) (last-of (faultAt (length h) 0 4) (orElse a (orElse b f)) p))
+
+  pub head-room : hashFault e h ≡ noFault → chainPlace e h + 4 * chainCount e h ≤ length h
+  head-room p = faultless (length h) (chainPlace e h) (4 * chainCount e h) noFault (sym (chains-fine p)) refl
+
+  -- and that the sums fit
+  fits-64 : (len o w : ℕ) → faultAt len o w ≡ noFault → o + w < 2 ^ 64
+  unfolding faultAt
+  fits-64 len o w p = pick (leb (2 ^ 64) (o + w)) refl p
+    where
+      pick : (t : Bool) → leb (2 ^ 64) (o + w) ≡ t → cond t (faulty 12) (cond (leb (o + w) len) noFault (faulty 11)) ≡ noFault → o + w < 2 ^ 64
+      pick true q r = let z : _≡_ {A = ℕ} 12 0 = ap (λ (x : Fault). x .number) r in absurd (omega arith)
+      pick false q r = leb-false _ _ q
+
+  pub head-small : hashFault e h ≡ noFault → 4 * chainCount e h < 2 ^ 64
+  head-small p = let k = fits-64 (length h) (chainPlace e h) (4 * chainCount e h) (chains-fine p) in omega arith
 
   -- what a header that was told tells
   pub head-told : (d : Head) → Is d ≡ answer (hashFault e h) (Is (headOf e h)) HeadRefused → (hashFault e h ≡ noFault) × (d ≡ headOf e h)

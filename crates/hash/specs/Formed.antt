@@ -6,10 +6,11 @@
 -- isNamed, searchOf       the search through all symbols but number 0
 -- Finds                   the lookup finds a symbol exactly when the search does, and the one that it finds has the name
 -- Assumes nothing.
-use Prim.Native.Nat.{ℕ, zero, suc, _-_, _%_, _<_}
+use Prim.Native.Nat.{ℕ, zero, suc, _-_, _%_, _^_, _<_}
 use mathlib.Core.Path.{_≡_}
 use mathlib.Core.Bool.{Bool, cond, _&&_, _||_}
 use mathlib.Core.List.{List}
+use lib.ListN.{length}
 use lib.Dec.{eqb, leb}
 use Rattle.endian.specs.Range.{noFault}
 use Rattle.endian.specs.declared.Order.{Order}
@@ -39,9 +40,10 @@ module _ (c : Class) (e : Order) (h syms strs : List ℕ) where
     pub above : 0 < i
     pub below : i < symbolCount c syms
 
-  -- document 01 says `counted`, `placed` and `once`; the rest it takes for granted: the table and the names can be read, and a
-  -- symbol's bucket is there
+  -- document 01 says `counted`, `placed` and `once`; the rest it takes for granted: the symbols are a part of some memory, the
+  -- table and the names can be read, and a symbol's bucket is there
   pub record WellFormed : Type 0 where
+    pub held : length syms < 2 ^ 64
     pub readable : hashFault e h ≡ noFault
     pub named : (i : ℕ) → Listed i → textFault strs (nameOf c e syms i) ≡ noFault
     pub bucket : (i : ℕ) → Listed i → 0 < bucketCount e h

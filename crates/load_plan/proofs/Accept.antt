@@ -3,15 +3,15 @@
 use Prim.Native.Nat.{ℕ, _*_, _<_}
 use native.Mathlib.Omega.{arith}
 use mathlib.Core.Path.{_≡_, refl, sym, ap, ap₂, _∙_}
-use mathlib.Core.Bool.{Bool, true, false, not, cond}
+use mathlib.Core.Bool.{Bool, true, false, not, cond, true≢false}
 use mathlib.Core.List.{List}
 use lib.ListN.{length}
 use lib.Dec.{ltb, eqb}
-use borrow.Author.Tests.{not-false, ltb-false, eq-eqb, ne-eqb}
+use borrow.Author.Tests.{not-false, ltb-false, eqb-true, eq-eqb, ne-eqb}
 use Rattle.endian.specs.Range.{noFault}
 use Rattle.endian.specs.declared.Fault.{Fault}
 use Rattle.records.specs.declared.Record.{Record}
-use Rattle.load_rules.specs.Rules.{anyBelow, low, goodWindow}
+use Rattle.load_rules.specs.Rules.{anyBelow, goodWindow}
 use Rattle.load_rules.specs.declared.Window.{Window}
 use Rattle.load_plan.specs.declared.Job.{Job}
 use Rattle.load_plan.specs.declared.Begun.{Begun}
@@ -19,8 +19,9 @@ use Rattle.load_plan.specs.declared.Begun.the-variants as begun
 use Rattle.load_plan.specs.declared.Refusal.{Refusal}
 use Rattle.load_plan.specs.declared.Answer.{Answer}
 use Rattle.load_plan.specs.declared.Answer.the-variants.{Planned, Refused}
-use Rattle.load_plan.specs.Plan.{segAt, some, crossed, other, tests, planIn, planOf, recordsIn, numberOf, refusalIn, refusalOf, answerOf, begunOf, tableAfter, Made}
+use Rattle.load_plan.specs.Plan.{segAt, some, clashAt, other, tests, planIn, planOf, recordsIn, numberOf, refusalIn, refusalOf, answerOf, begunOf, tableAfter, Made}
 use Rattle.load_plan.specs.Facts.{Held, Accepted, Filled}
+use Rattle.load_plan.proofs.Opening.{held}
 
 -- a test that gives no number did not hold
 pass : (b : Bool) (d r : ℕ) → 0 < d → cond b d r ≡ 0 → (b ≡ false) × (r ≡ 0)
@@ -35,7 +36,7 @@ accepted f j w room h e =
     let p4 = pass (some f j w 23) 23 _ (omega arith) (p3 .1) in
     let p5 = pass (not (goodWindow w)) 24 _ (omega arith) (p4 .1) in
     let p6 = pass (some f j w 24) 24 _ (omega arith) (p5 .1) in
-    let p7 = pass (anyBelow (crossed (segAt f j) (low (j .kind) w)) (j .count)) 25 _ (omega arith) (p6 .1) in
+    let p7 = pass (anyBelow (clashAt (segAt f j)) (j .count)) 25 _ (omega arith) (p6 .1) in
     let p8 = pass (some f j w 26) 26 _ (omega arith) (p7 .1) in
     let p9 = pass (not (some f j w 27)) 27 _ (omega arith) (p8 .1) in
     let p10 = pass (ltb room (48 * length (planIn f w j))) 14 _ (omega arith) (p9 .1) in
@@ -79,3 +80,32 @@ module _ (f : List ℕ) (w : Window) (j : Job) (old : List ℕ) (b : begun.Is j 
 
   pub made-refused : (d ≡ 0 → ⊥) → Made f w old old (Refused (record { number = d; reader = noFault }))
   made-refused z = record { answers = sym (answer-is ∙ rw (ne-eqb d 0 z)); table = refl }
+
+-- ---- what a file that is planned is
+
+pub record Begins (f : List ℕ) (w : Window) (room n : ℕ) : Type 0 where
+  pub job : Job
+  pub is-job : begunOf f ≡ begun.Is job
+  pub accepted-is : Accepted f job w room
+  pub count-is : n ≡ length (planIn f w job)
+  pub plan-is : planOf f w ≡ planIn f w job
+
+pub planned : (f : List ℕ) (w : Window) (room n : ℕ) → Planned n ≡ answerOf f w room → Begins f w room n
+unfolding answerOf refusalOf planOf
+planned f w room n e = begins (begunOf f) refl e
+  where
+    zero-is : (b : Begun) (c : Bool) → Planned n ≡ cond c (Planned (length (recordsIn f w b))) (Refused (refusalIn f w room b)) → (c ≡ true) × (n ≡ length (recordsIn f w b))
+    zero-is b true q = (refl, cc)
+    zero-is b false q = let z : _≡_ {A = ℕ} 0 1 = cc in absurd (omega arith)
+
+    begins : (b : Begun) → begunOf f ≡ b → Planned n ≡ cond (eqb (refusalIn f w room b .number) 0) (Planned (length (recordsIn f w b))) (Refused (refusalIn f w room b)) → Begins f w room n
+    begins (begun.Refused x) p q = let z = zero-is (begun.Refused x) (eqb 20 0) q in absurd (true≢false (sym (z .0)))
+    begins (begun.Is j) p q =
+        let z = zero-is (begun.Is j) (eqb (numberOf f j w room) 0) q in
+        record {
+          job = j;
+          is-job = p;
+          accepted-is = accepted f j w room (held f j p) (eqb-true _ _ (z .0));
+          count-is = z .1;
+          plan-is = ap (recordsIn f w) p;
+        }

@@ -1,4 +1,5 @@
 pub mod Opening
 pub mod Order
+pub mod Clash
 pub mod Table
 pub mod Accept

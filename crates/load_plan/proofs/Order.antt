@@ -16,8 +16,8 @@ use Rattle.load_rules.specs.declared.Window.{Window}
 use Rattle.load_rules.proofs.Tests.{none-at}
 use Rattle.load_rules.proofs.Pages.{placed, down-from, up-from}
 use Rattle.load_plan.specs.declared.Job.{Job}
-use Rattle.load_plan.specs.Plan.{segAt, test, testAt, endBelow, crossed}
-use Rattle.load_plan.specs.Facts.{countBelow}
+use Rattle.load_plan.specs.Plan.{segAt, test, testAt}
+use Rattle.load_plan.specs.Facts.{countBelow, endBelow, crossed}
 
 -- a segment that counts lies in the window, once none is outside
 pub placed-at : (f : List ℕ) (j : Job) (w : Window) (l k n : ℕ) (s : ProgramHeader) → l ≡ low (j .kind) w → s ≡ segAt f j k → real s ≡ true → goodWindow w ≡ true

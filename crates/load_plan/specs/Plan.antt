@@ -3,7 +3,7 @@
 -- begunOf f            what the plan asks of the file f, or what the reader says of it (20)
 -- segAt f j k          the k-th program header
 -- testAt f j w d k     the test of number d of the k-th segment
--- endBelow, crossed    the order of pages (25)
+-- clash, clashAt       two segments that cannot both be loaded (25); the k-th clashes with one before it
 -- tests f j w          the tests 21 to 27, in the table's order
 -- numberOf f j w room  the smallest number that applies, 14 last, or 0
 -- planIn, planOf       the records
@@ -89,14 +89,16 @@ testAt f j w d k = test d (length f) j w (segAt f j k)
 abbrev pub some : List ℕ → Job → Window → ℕ → Bool
 some f j w d = anyBelow (testAt f j w d) (j .count)
 
--- where the pages of the segments before the k-th end: the window's start where there is none
-unfoldable pub endBelow : (ℕ → ProgramHeader) → ℕ → ℕ → ℕ
-endBelow seg l zero = l
-endBelow seg l (suc k) = cond (real (seg k)) (last (seg k)) (endBelow seg l k)
+-- two loaded segments, the first before the second in the table: addresses not ascending, or their pages overlap
+abbrev pub clash : ProgramHeader → ProgramHeader → Bool
+clash s t = (real s && real t) && (leb (t .vaddr) (s .vaddr) || (ltb (first s) (last t) && ltb (first t) (last s)))
 
--- the k-th segment's pages start before the end of those before it (Meaning says it in document 01's words)
-unfoldable pub crossed : (ℕ → ProgramHeader) → ℕ → ℕ → Bool
-crossed seg l k = real (seg k) && ltb (first (seg k)) (endBelow seg l k)
+unfoldable pub clashWith : (ℕ → ProgramHeader) → ℕ → ℕ → Bool
+clashWith seg k i = clash (seg i) (seg k)
+
+-- the k-th segment clashes with one before it
+unfoldable pub clashAt : (ℕ → ProgramHeader) → ℕ → Bool
+clashAt seg k = anyBelow (clashWith seg k) k
 
 abbrev pub other : ℕ → Bool
 other kind = not (eqb kind 2 || eqb kind 3)
@@ -108,7 +110,7 @@ tests f j w =
     (some f j w 23, 23) ∷
     (not (goodWindow w), 24) ∷
     (some f j w 24, 24) ∷
-    (anyBelow (crossed (segAt f j) (low (j .kind) w)) (j .count), 25) ∷
+    (anyBelow (clashAt (segAt f j)) (j .count), 25) ∷
     (some f j w 26, 26) ∷
     (not (some f j w 27), 27) ∷
     []

@@ -7,8 +7,8 @@ ghost use Prim.Native.Nat.{_+_, _*_, _<_, _≤_};
 ghost use lib.ListN.{length};
 ghost use lib.Dec.{eqb, ltb};
 ghost use Rattle.elf_bytes.specs.Open.{Tabled};
-ghost use Rattle.load_rules.specs.Rules.{anyBelow, low, goodWindow};
-ghost use Rattle.load_plan.specs.Plan.{begunOf, jobIn, segAt, test, testAt, crossed, other, planIn, numberOf, windowOf, Made};
+ghost use Rattle.load_rules.specs.Rules.{anyBelow, goodWindow};
+ghost use Rattle.load_plan.specs.Plan.{begunOf, jobIn, segAt, test, testAt, clashAt, other, planIn, numberOf, windowOf, Made};
 ghost use Rattle.load_plan.specs.Facts.{Held, Accepted, Filled, countBelow, lateNumber};
 use elf_bytes::Elf;
 use elf_bytes::Opened;
@@ -152,12 +152,12 @@ fn count(f: &[u8], j: Job) -> usize
     c
 }
 
-// Do the pages of a segment start before the end of those before it?
+// Does a segment clash with one before it? In one pass: its pages start before the end of those before it.
 fn out_of_order(f: &[u8], j: Job, w: Window) -> bool
     requires { ⌜ Held (now f) j ⌝ }
     requires { ⌜ goodWindow w ≡ true ⌝ }
     requires { ⌜ anyBelow (testAt (now f) j w 24) (j .count) ≡ false ⌝ }
-    ensures { λ r. ⌜ r ≡ anyBelow (crossed (segAt (now (f .entry)) j) (low (j .kind) w)) (j .count) ⌝ }
+    ensures { λ r. ⌜ r ≡ anyBelow (clashAt (segAt (now (f .entry)) j)) (j .count) ⌝ }
 {
     let n = j.count;
     let l = load_rules::low_of(j.kind, w);

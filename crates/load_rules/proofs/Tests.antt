@@ -43,6 +43,12 @@ none-at p (suc n) k h l =
     (λ lt. none-at p n k (or-false-left (anyBelow p n) (p n) h) lt)
     (eq-or-lt-of-le (le-of-suc-le-suc l))
 
+-- not at any below n: none
+pub none-of : (p : ℕ → Bool) (n : ℕ) → ((k : ℕ) → k < n → p k ≡ false) → anyBelow p n ≡ false
+unfolding anyBelow
+none-of p zero h = refl
+none-of p (suc n) h = rw (none-of p n (λ k l. h k (omega arith)), h n (omega arith))
+
 -- p holds at k: it holds of one below n
 pub some-at : (p : ℕ → Bool) (n k : ℕ) → p k ≡ true → k < n → anyBelow p n ≡ true
 unfolding anyBelow

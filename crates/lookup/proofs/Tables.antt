@@ -7,11 +7,10 @@ use mathlib.Core.Path.{_≡_, refl, sym, ap, _∙_}
 use mathlib.Core.List.{List}
 use lib.ListN.{length}
 use lib.Dec.{eqb}
-use borrow.Author.Tests.{eq-eqb, ne-eqb, eqb-true}
-use Rattle.endian.specs.Range.{faultAt}
-use Rattle.endian.specs.declared.Fault.{Fault}
-use Rattle.endian.proofs.Laws.{faultless}
-use Rattle.parse.specs.Entry.{rangeOf, rangeAt}
+use borrow.Author.Tests.{eq-eqb, ne-eqb}
+use Rattle.parse.specs.Entry.{rangeAt}
+use Rattle.parse.proofs.Laws.{range-inside}
+use Rattle.parse.specs.declared.GotRange.{GotRange}
 use Rattle.parse.specs.declared.GotRange.the-variants as range
 use Rattle.section.specs.declared.GotSectionHeader.{GotSectionHeader}
 use Rattle.section.specs.declared.GotSectionHeader.the-variants as header
@@ -50,16 +49,11 @@ dynamic-some s elf r p = ap (dynamicWith s elf) p
 -- ---- the table of names lies in the file
 
 range-whole : (s : List ℕ) (o n : ℕ) (t : Table) → tableOf (rangeAt (length s) o n) ≡ Is t → Tabled s t
-unfolding rangeAt
-range-whole s o n t e = pick (faultAt (length s) o n) (eqb (faultAt (length s) o n .number) 0) refl refl e
+range-whole s o n t e = pick (rangeAt (length s) o n) refl e
   where
-    pick : (f : Fault) (b : Bool) → f ≡ faultAt (length s) o n → eqb (f .number) 0 ≡ b
-        → tableOf (cond b (range.Is (rangeOf o n)) (range.Refused f)) ≡ Is t → Tabled s t
-    pick f true d p q =
-        let w = faultless (length s) o n f d (eqb-true _ _ p) in
-        let z : At (rangeOf o n) ≡ t = cc in
-        rw (← z) (omega arith)
-    pick f false d p q = let z : _≡_ {A = ℕ} 0 1 = cc in absurd (omega arith)
+    pick : (g : GotRange) → g ≡ rangeAt (length s) o n → tableOf g ≡ Is t → Tabled s t
+    pick (range.Is r) d q = let z : At r ≡ t = cc in rw (← z) (range-inside (length s) o n r d)
+    pick (range.Refused f) d q = let z : _≡_ {A = ℕ} 0 1 = cc in absurd (omega arith)
 
 bytes-whole : (s : List ℕ) (h : GotSectionHeader) (t : Table) → bytesOf s h ≡ Is t → Tabled s t
 bytes-whole s (header.Refused f) t e = let z : _≡_ {A = ℕ} 0 1 = cc in absurd (omega arith)

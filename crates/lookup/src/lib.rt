@@ -31,13 +31,13 @@ enum GotIndex {
     Refused(Fault),
 }
 
-fn wide(x: u32) -> usize
+pub fn wide(x: u32) -> usize
     ensures { λ r. ⌜ r ≡ x ⌝ }
 {
     x as usize
 }
 
-fn table_of(g: GotRange) -> GotTable
+pub fn table_of(g: GotRange) -> GotTable
     ensures { λ r. ⌜ r ≡ tableOf g ⌝ }
 {
     match g {

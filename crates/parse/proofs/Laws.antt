@@ -6,10 +6,13 @@ use native.Mathlib.Omega.{arith}
 use mathlib.Core.Path.{_≡_, refl, sym, ap, _∙_}
 use mathlib.Core.Bool.{Bool, true, false, cond}
 use lib.Dec.{leb, ltb, eqb}
-use borrow.Author.Tests.{ltb-true, ltb-false, leb-true, le-leb, lt-leb, le-ltb, ne-eqb}
-use Rattle.endian.specs.Range.{faulty, noFault}
+use borrow.Author.Tests.{eqb-true, ltb-true, ltb-false, leb-true, le-leb, lt-leb, le-ltb, ne-eqb}
+use Rattle.endian.specs.Range.{faulty, noFault, faultAt}
+use Rattle.endian.proofs.Laws.{faultless}
 use Rattle.endian.specs.declared.Fault.{Fault}
-use Rattle.parse.specs.Entry.{entryFault, countOf}
+use Rattle.parse.specs.Entry.{entryFault, countOf, rangeOf, rangeAt}
+use Rattle.parse.specs.declared.Range.{Range}
+use Rattle.parse.specs.declared.GotRange.the-variants.{Is, Refused}
 use Rattle.parse.specs.First.{firstFrom}
 use Rattle.parse.specs.declared.Found.the-variants.{At, Nothing}
 
@@ -96,3 +99,16 @@ pub first-never : (p : ℕ → Bool) (n i : ℕ) → ((k : ℕ) → p k ≡ fals
 unfolding firstFrom
 first-never p zero i h = refl
 first-never p (suc n) i h = rw (h i) (first-never p n (i + 1) h)
+
+-- a range that was told lies in the data
+pub range-inside : (len o n : ℕ) (r : Range) → Is r ≡ rangeAt len o n → (r .from ≤ r .to) × (r .to ≤ len)
+unfolding rangeAt
+range-inside len o n r e = pick (faultAt len o n) (eqb (faultAt len o n .number) 0) refl refl e
+  where
+    pick : (f : Fault) (b : Bool) → f ≡ faultAt len o n → eqb (f .number) 0 ≡ b → Is r ≡ cond b (Is (rangeOf o n)) (Refused f)
+        → (r .from ≤ r .to) × (r .to ≤ len)
+    pick f true d p q =
+        let w = faultless len o n f d (eqb-true _ _ p) in
+        let z : rangeOf o n ≡ r = cc in
+        rw (← z) (omega arith)
+    pick f false d p q = let z : _≡_ {A = ℕ} 0 1 = cc in absurd (omega arith)

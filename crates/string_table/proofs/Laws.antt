@@ -1,6 +1,6 @@
 -- The laws of strings: where a string ends, what the last zero byte tells, and when a string is a name.
 -- Assumes nothing.
-use Prim.Native.Nat.{ℕ, zero, suc, _+_, _-_, _<_, _≤_}
+use Prim.Native.Nat.{ℕ, suc, _+_, _-_, _<_, _≤_}
 use native.Mathlib.Nat.{lt-of-not-le}
 use native.Mathlib.Omega.{arith}
 use mathlib.Core.Path.{_≡_, refl, sym, ap, _∙_}
@@ -9,19 +9,18 @@ use mathlib.Core.List.{List, [], _∷_}
 use lib.ListN.{length, getD, take, drop, length-take, length-drop}
 use lib.Seq.{getD-take, getD-drop, ext-getD}
 use lib.Dec.{eqb, ltb, leb}
-use borrow.Author.Tests.{eq-eqb, ne-eqb, eqb-true, eqb-false, le-leb, lt-leb, leb-true, leb-false, ltb-false}
+use borrow.Author.Tests.{eq-eqb, ne-eqb, eqb-true, eqb-false, le-leb, lt-leb, leb-true, ltb-false}
 use Rattle.endian.specs.Range.{faulty, noFault, answer}
 use Rattle.endian.specs.declared.Fault.{Fault}
 use Rattle.parse.specs.First.{firstFrom}
 use Rattle.parse.specs.declared.Found.{Found}
 use Rattle.parse.specs.declared.Found.the-variants.{At, Nothing}
 use Rattle.parse.specs.declared.Range.{Range}
-use Rattle.parse.specs.declared.GotRange.{GotRange}
 use Rattle.parse.specs.declared.GotRange.the-variants.{Is, Refused}
 use Rattle.parse.proofs.Laws.{first-bounds}
 use Rattle.string_table.specs.Text.{isZero, endOf, lastBelow, lastZero, textFault, faultWith, noEnd, noneFrom, textAt, upTo, textRange, between, sameBytes}
 use Rattle.string_table.specs.Utf8.{wellFormed, utf8Fault}
-use Rattle.string_table.proofs.Search.{first-nothing, first-absent, first-at, first-is, last-nothing, last-at}
+use Rattle.string_table.proofs.Search.{first-nothing, first-at, first-is, last-nothing, last-at}
 
 -- the end of a string lies in the table, at or behind its start
 pub end-bounds : (s : List ℕ) (o e : ℕ) → endOf s o ≡ At e → (o ≤ e) × (e < length s)

@@ -7,7 +7,6 @@ use mathlib.Core.Path.{_≡_, refl, sym, ap, _∙_}
 use mathlib.Core.Logic.{⊎-elim}
 use mathlib.Core.Bool.{Bool, true, false, cond}
 use Rattle.parse.specs.First.{firstFrom}
-use Rattle.parse.specs.declared.Found.{Found}
 use Rattle.parse.specs.declared.Found.the-variants.{At, Nothing}
 use Rattle.string_table.specs.Text.{lastBelow}
 
@@ -22,12 +21,6 @@ module _ (p : ℕ → Bool) where
           → (t : Bool) → p i ≡ t → cond t (At i) (firstFrom p n (i + 1)) ≡ Nothing → p j ≡ false
       pick f true q r = let z : _≡_ {A = ℕ} 0 1 = cc in absurd (omega arith)
       pick f false q r = ⊎-elim (λ s. ap p (sym s) ∙ q) (λ l. f r j (omega arith) (omega arith)) (eq-or-lt-of-le a)
-
-  -- and the other way round
-  pub first-absent : (n i : ℕ) → ((j : ℕ) → i ≤ j → j < i + n → p j ≡ false) → firstFrom p n i ≡ Nothing
-  unfolding firstFrom
-  first-absent zero i h = refl
-  first-absent (suc n) i h = rw (h i (omega arith) (omega arith)) (first-absent n (i + 1) (λ j a b. h j (omega arith) (omega arith)))
 
   -- something found from the front: the test holds there and fails before
   pub first-at : (n i e : ℕ) → firstFrom p n i ≡ At e → (p e ≡ true) × ((j : ℕ) → i ≤ j → j < e → p j ≡ false)

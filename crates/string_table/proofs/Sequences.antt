@@ -2,13 +2,13 @@
 -- Assumes nothing.
 use Prim.Native.Nat.{ℕ, zero, suc, _-_, _<_, _≤_}
 use native.Mathlib.Omega.{arith}
-use mathlib.Core.Path.{_≡_, refl, sym, ap, _∙_}
+use mathlib.Core.Path.{_≡_, refl, sym}
 use mathlib.Core.Bool.{Bool, true, false, cond, _&&_}
 use mathlib.Core.List.{List, [], _∷_}
 use lib.ListN.{replicate}
 use lib.Dec.{leb, eqb}
 use borrow.Author.Tests.{le-leb, lt-leb, leb-true, ne-eqb}
-use Rattle.string_table.specs.Utf8.{Span, span, within, tail, never, rowOf, follows, stepOf, pending, awaited}
+use Rattle.string_table.specs.Utf8.{Span, span, within, tail, never, follows, stepOf, pending, awaited}
 use Rattle.string_table.specs.declared.Awaited.{Awaited}
 
 pub inside : (l h b : ℕ) → l ≤ b → b ≤ h → within (span l h) b ≡ true

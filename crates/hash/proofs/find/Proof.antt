@@ -1,7 +1,7 @@
 -- `hash::find` meets its contract.
 -- Assumes nothing.
 use native.Mathlib.Omega.{arith}
-use mathlib.Core.Path.{sym, ap, _∙_}
+use mathlib.Core.Path.{sym, _∙_}
 use Rattle.hash.proofs.Laws.{head-told, start-room, find-refused, find-none, find-walk}
 use borrow.Author.Needs.{needs}
 use Rattle.hash.proofs.find.Statement.{statement}

@@ -1,7 +1,7 @@
 -- `hash::next` meets its contract: the chain entries lie in the table.
 -- Assumes nothing.
 use native.Mathlib.Omega.{arith}
-use mathlib.Core.Path.{sym, ap, _∙_}
+use mathlib.Core.Path.{ap, _∙_}
 use Rattle.hash.specs.declared.Turn.the-variants.{Next}
 use Rattle.hash.proofs.Laws.{told-room, next-here, next-out}
 use borrow.Author.Needs.{needs}

@@ -1,7 +1,7 @@
 -- `hash::one_turn` meets its contract: the symbol, its name, the comparison, the chain entry, in this order.
 -- Assumes nothing.
 use native.Mathlib.Omega.{arith}
-use mathlib.Core.Path.{sym, ap, _∙_}
+use mathlib.Core.Path.{_∙_}
 use Rattle.parse.proofs.Laws.{whole}
 use Rattle.hash.proofs.Laws.{size-room, turn-fine, turn-fails}
 use borrow.Author.Needs.{needs}

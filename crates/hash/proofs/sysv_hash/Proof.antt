@@ -1,8 +1,8 @@
 -- `hash::sysv_hash` meets its contract. The invariant: the bytes left, from the hash so far, make the hash of all bytes.
 -- Assumes nothing.
 use native.Mathlib.Numerals.{add-one}
-use Prim.Native.Nat.{suc, _-_, _%_, _^_}
-use mathlib.Core.Path.{_≡_, refl, sym, ap, _∙_}
+use Prim.Native.Nat.{_-_, _%_, _^_}
+use mathlib.Core.Path.{_≡_, refl}
 use lib.ListN.{length, drop, drop-of-length-le}
 use lib.Seq.{drop-cons}
 use Rattle.hash.specs.Sysv.{sysvFrom, sysvHash}

@@ -1,9 +1,8 @@
 -- `hash::walk` meets its contract. The invariant: what is left of the walk answers what the whole walk answers.
 -- Assumes nothing.
 use native.Mathlib.Omega.{arith}
-use Prim.Native.Nat.{_-_}
-use mathlib.Core.Path.{_≡_, refl, sym, ap, _∙_}
-use Rattle.hash.specs.Find.{walkOf, afterTurn}
+use mathlib.Core.Path.{_≡_, refl, sym, _∙_}
+use Rattle.hash.specs.Find.{walkOf}
 use Rattle.hash.proofs.Laws.{walk-ended, walk-over, walk-turn}
 use borrow.Author.Needs.{needs}
 use Rattle.hash.proofs.walk.Statement.{statement}

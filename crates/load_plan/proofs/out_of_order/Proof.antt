@@ -9,7 +9,9 @@ use borrow.Author.Needs.{needs}
 use Rattle.load_rules.specs.Rules.{anyBelow}
 use Rattle.load_rules.specs.Facts.{Placed}
 use Rattle.load_rules.proofs.Tests.{none-more, some-at}
-use Rattle.load_plan.specs.Plan.{segAt, crossed, endBelow}
+use Rattle.load_plan.specs.Plan.{segAt, clashAt}
+use Rattle.load_plan.specs.Facts.{crossed, endBelow}
+use Rattle.load_plan.proofs.Clash.{order-is}
 use Rattle.load_plan.proofs.Order.{placed-at, end-real, end-skip, crossed-skip, crossed-yes, crossed-no}
 use Rattle.load_plan.proofs.out_of_order.Statement.{statement}
 use Rattle.load_plan.proofs.out_of_order.Tie as tie
@@ -46,11 +48,12 @@ returns c =
     let seg = segAt (a .f .now) (a .j) in
     let l = at-loop .before .low-of .result in
     let p = here at-then in
-    rw (← at-loop .before .low-of .ensures)
-    (sym (some-at (crossed seg l) (a .j .count) (at-loop .loop .k)
+    let d = at-loop .before .before .before .pre in
+    sym (sym (order-is (a .f .now) (a .j) (a .w) l (at-loop .before .low-of .ensures) (d .1 .0) (d .1 .1))
+    ∙ some-at (crossed seg l) (a .j .count) (at-loop .loop .k)
     (crossed-yes seg l (at-loop .loop .k) (at-loop .loop .end) (at-then .before .before .header-at .result) (at-then .before .before .header-at .ensures)
     (sym (at-then .before .is-real .ensures) ∙ at-then .if1 .taken) (p .page) (p .low) (at-loop .loop .inv .1 .0) (omega (arith, c .before .first-page .ensures, c .if2 .taken)))
-    (at-then .before .before .before .loop-test .taken)))
+    (at-then .before .before .before .loop-test .taken))
 
 last-page-requires : tie.Need-last-page-requires Inv-loop μ-loop
 last-page-requires c κs = let p = here (c .before .before) in omega (arith, p .low, p .high, p .good-window .len-small)
@@ -97,7 +100,10 @@ returns-2 : tie.Need-returns-2 Inv-loop μ-loop
 returns-2 c =
     let l = c .before .loop in
     let a = c .before .before .before .before .args in
-    sym (rw (← c .before .before .low-of .ensures) (ap (anyBelow (crossed (segAt (a .f .now) (a .j)) (c .before .before .low-of .result))) (le-antisymm (c .loop-test .left) (l .inv .0)) ∙ l .inv .1 .1))
+    let d = c .before .before .before .before .pre in
+    let o = c .before .before .low-of in
+    sym (sym (order-is (a .f .now) (a .j) (a .w) (o .result) (o .ensures) (d .1 .0) (d .1 .1))
+    ∙ ap (anyBelow (crossed (segAt (a .f .now) (a .j)) (o .result))) (le-antisymm (c .loop-test .left) (l .inv .0)) ∙ l .inv .1 .1)
 
 pub out-of-order-spec : {M : Type 1} → statement M
 out-of-order-spec =

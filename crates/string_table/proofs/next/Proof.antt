@@ -1,7 +1,7 @@
 -- `string_table::next` meets its contract.
 -- Assumes nothing.
 use Prim.Native.Nat.{_-_}
-use mathlib.Core.Path.{_∙_, sym}
+use mathlib.Core.Path.{_∙_}
 use Rattle.string_table.specs.Utf8.{stepOf}
 use Rattle.string_table.proofs.Sequences.{awaited-none, awaited-some, awaited-tails}
 use borrow.Author.Needs.{needs}

@@ -4,11 +4,11 @@ use borrow.Author.Needs.{needs}
 use native.Mathlib.Nat.{eq-or-lt-of-le}
 use native.Mathlib.Omega.{arith}
 use Prim.Native.Nat.{ℕ, _+_, _-_, _≤_, _<_}
-use mathlib.Core.Path.{_≡_, sym, ap, _∙_}
+use mathlib.Core.Path.{_≡_, sym}
 use mathlib.Core.Logic.{⊎-elim}
-use lib.ListN.{length, getD}
+use lib.ListN.{getD}
 use denote.Ref.{now}
-use Rattle.string_table.proofs.Laws.{Agrees, same-agreed, same-refused, last-inside}
+use Rattle.string_table.proofs.Laws.{same-agreed, same-refused, last-inside}
 use Rattle.string_table.proofs.same_at.Statement.{statement}
 use Rattle.string_table.proofs.same_at.Tie as tie
 

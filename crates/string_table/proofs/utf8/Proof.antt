@@ -1,7 +1,7 @@
 -- `string_table::utf8` meets its contract: a range that `text` told lies in the table and holds the string.
 -- Assumes nothing.
 use native.Mathlib.Omega.{arith}
-use mathlib.Core.Path.{sym, ap, _∙_}
+use mathlib.Core.Path.{sym, _∙_}
 use Rattle.string_table.proofs.Laws.{text-told, utf8-good, utf8-bad, utf8-refused}
 use borrow.Author.Needs.{needs}
 use Rattle.string_table.proofs.utf8.Statement.{statement}

@@ -1,0 +1,3 @@
+pub mod Carry
+pub mod Image
+pub mod Pieces

@@ -1,0 +1,384 @@
+// The functions of include/loadplan.h, by their C names: each asks one question of the crates below and puts the answer
+// into the caller's array. Nothing else is here.
+ghost use mathlib.Core.Path.{_≡_};
+use file::Ident;
+use load_plan::Answer;
+
+// A plan's answer.
+#[repr(C)]
+pub struct Planned {
+    pub refusal: u32,
+    pub reader: u32,
+    pub records: u64,
+}
+
+// ---- a whole file
+
+#[no_mangle]
+pub extern "C" fn loadplan_open(file: &[u8], out: &mut [u64; 23]) -> u32 {
+    replies::put_opened(file::header(file), elf_bytes::open(file), out)
+}
+
+#[no_mangle]
+pub extern "C" fn loadplan_section_at(file: &[u8], i: usize, out: &mut [u64; 10]) -> u32 {
+    replies::put_section(contents::section_at(file, i), out)
+}
+
+#[no_mangle]
+pub extern "C" fn loadplan_segment_at(file: &[u8], i: usize, out: &mut [u64; 8]) -> u32 {
+    replies::put_segment(contents::segment_at(file, i), out)
+}
+
+#[no_mangle]
+pub extern "C" fn loadplan_name_table(file: &[u8], out: &mut [u64; 3]) -> u32 {
+    replies::put_table(lookup::name_table(file), out)
+}
+
+#[no_mangle]
+pub extern "C" fn loadplan_section_by_name(file: &[u8], name: &[u8], out: &mut [u64; 2]) -> u32 {
+    replies::put_found(lookup::by_name(file, name), out)
+}
+
+#[no_mangle]
+pub extern "C" fn loadplan_section_data(
+    file: &[u8],
+    kind: u32,
+    offset: u64,
+    size: u64,
+    out: &mut [u64; 2],
+) -> u32 {
+    replies::put_range(
+        contents::section_data(file, kind, offset as usize, size as usize),
+        out,
+    )
+}
+
+#[no_mangle]
+pub extern "C" fn loadplan_section_strings(
+    file: &[u8],
+    kind: u32,
+    offset: u64,
+    size: u64,
+    out: &mut [u64; 2],
+) -> u32 {
+    replies::put_range(
+        contents::strings_data(file, kind, offset as usize, size as usize),
+        out,
+    )
+}
+
+#[no_mangle]
+pub extern "C" fn loadplan_section_rels(
+    file: &[u8],
+    kind: u32,
+    offset: u64,
+    size: u64,
+    out: &mut [u64; 2],
+) -> u32 {
+    replies::put_range(
+        contents::rels_data(file, kind, offset as usize, size as usize),
+        out,
+    )
+}
+
+#[no_mangle]
+pub extern "C" fn loadplan_section_relas(
+    file: &[u8],
+    kind: u32,
+    offset: u64,
+    size: u64,
+    out: &mut [u64; 2],
+) -> u32 {
+    replies::put_range(
+        contents::relas_data(file, kind, offset as usize, size as usize),
+        out,
+    )
+}
+
+#[no_mangle]
+pub extern "C" fn loadplan_section_dynamic(
+    file: &[u8],
+    kind: u32,
+    offset: u64,
+    size: u64,
+    entsize: u64,
+    out: &mut [u64; 2],
+) -> u32 {
+    replies::put_range(
+        contents::dynamic_data(file, kind, offset as usize, size as usize, entsize as usize),
+        out,
+    )
+}
+
+#[no_mangle]
+pub extern "C" fn loadplan_section_symbols(
+    file: &[u8],
+    offset: u64,
+    size: u64,
+    link: u32,
+    entsize: u64,
+    out: &mut [u64; 4],
+) -> u32 {
+    replies::put_pair(
+        contents::symbols_data(
+            file,
+            offset as usize,
+            size as usize,
+            link as usize,
+            entsize as usize,
+        ),
+        out,
+    )
+}
+
+#[no_mangle]
+pub extern "C" fn loadplan_segment_data(
+    file: &[u8],
+    offset: u64,
+    filesz: u64,
+    out: &mut [u64; 2],
+) -> u32 {
+    replies::put_range(
+        contents::segment_data(file, offset as usize, filesz as usize),
+        out,
+    )
+}
+
+#[no_mangle]
+pub extern "C" fn loadplan_symbol_table(file: &[u8], out: &mut [u64; 5]) -> u32 {
+    replies::put_symbols(lookup::symbol_table(file), out)
+}
+
+#[no_mangle]
+pub extern "C" fn loadplan_dynamic_symbol_table(file: &[u8], out: &mut [u64; 5]) -> u32 {
+    replies::put_symbols(lookup::dynamic_symbol_table(file), out)
+}
+
+#[no_mangle]
+pub extern "C" fn loadplan_dynamic(file: &[u8], out: &mut [u64; 3]) -> u32 {
+    replies::put_table(lookup::dynamic(file), out)
+}
+
+// ---- tables
+
+#[no_mangle]
+pub extern "C" fn loadplan_section(
+    class: u8,
+    order: u8,
+    table: &[u8],
+    i: usize,
+    out: &mut [u64; 10],
+) -> u32 {
+    let k = replies::kind_of(class, order);
+    match k {
+        Ident::Refused(f) => f.number as u32,
+        Ident::Is(c, o) => replies::put_section(section::entry(c, o, table, i), out),
+    }
+}
+
+#[no_mangle]
+pub extern "C" fn loadplan_segment(
+    class: u8,
+    order: u8,
+    table: &[u8],
+    i: usize,
+    out: &mut [u64; 8],
+) -> u32 {
+    let k = replies::kind_of(class, order);
+    match k {
+        Ident::Refused(f) => f.number as u32,
+        Ident::Is(c, o) => replies::put_segment(segment::entry(c, o, table, i), out),
+    }
+}
+
+#[no_mangle]
+pub extern "C" fn loadplan_symbol(
+    class: u8,
+    order: u8,
+    table: &[u8],
+    i: usize,
+    out: &mut [u64; 6],
+) -> u32 {
+    let k = replies::kind_of(class, order);
+    match k {
+        Ident::Refused(f) => f.number as u32,
+        Ident::Is(c, o) => replies::put_symbol(symbol::entry(c, o, table, i), out),
+    }
+}
+
+#[no_mangle]
+pub extern "C" fn loadplan_rel(
+    class: u8,
+    order: u8,
+    table: &[u8],
+    i: usize,
+    out: &mut [u64; 3],
+) -> u32 {
+    let k = replies::kind_of(class, order);
+    match k {
+        Ident::Refused(f) => f.number as u32,
+        Ident::Is(c, o) => replies::put_rel(relocation::rel_entry(c, o, table, i), out),
+    }
+}
+
+#[no_mangle]
+pub extern "C" fn loadplan_rela(
+    class: u8,
+    order: u8,
+    table: &[u8],
+    i: usize,
+    out: &mut [u64; 4],
+) -> u32 {
+    let k = replies::kind_of(class, order);
+    match k {
+        Ident::Refused(f) => f.number as u32,
+        Ident::Is(c, o) => replies::put_rela(relocation::rela_entry(c, o, table, i), out),
+    }
+}
+
+#[no_mangle]
+pub extern "C" fn loadplan_dyn(
+    class: u8,
+    order: u8,
+    table: &[u8],
+    i: usize,
+    out: &mut [u64; 2],
+) -> u32 {
+    let k = replies::kind_of(class, order);
+    match k {
+        Ident::Refused(f) => f.number as u32,
+        Ident::Is(c, o) => replies::put_dyn(dynamic::entry(c, o, table, i), out),
+    }
+}
+
+#[no_mangle]
+pub extern "C" fn loadplan_sections(
+    class: u8,
+    order: u8,
+    table: &[u8],
+    from: usize,
+    out: &mut [u64],
+) -> usize {
+    0
+}
+
+#[no_mangle]
+pub extern "C" fn loadplan_segments(
+    class: u8,
+    order: u8,
+    table: &[u8],
+    from: usize,
+    out: &mut [u64],
+) -> usize {
+    0
+}
+
+#[no_mangle]
+pub extern "C" fn loadplan_symbols(
+    class: u8,
+    order: u8,
+    table: &[u8],
+    from: usize,
+    out: &mut [u64],
+) -> usize {
+    0
+}
+
+#[no_mangle]
+pub extern "C" fn loadplan_rels(
+    class: u8,
+    order: u8,
+    table: &[u8],
+    from: usize,
+    out: &mut [u64],
+) -> usize {
+    0
+}
+
+#[no_mangle]
+pub extern "C" fn loadplan_relas(
+    class: u8,
+    order: u8,
+    table: &[u8],
+    from: usize,
+    out: &mut [u64],
+) -> usize {
+    0
+}
+
+#[no_mangle]
+pub extern "C" fn loadplan_dyns(
+    class: u8,
+    order: u8,
+    table: &[u8],
+    from: usize,
+    out: &mut [u64],
+) -> usize {
+    0
+}
+
+#[no_mangle]
+pub extern "C" fn loadplan_string(table: &[u8], offset: usize, out: &mut [u64; 2]) -> u32 {
+    replies::put_range(string_table::text(table, offset), out)
+}
+
+#[no_mangle]
+pub extern "C" fn loadplan_string_utf8(table: &[u8], offset: usize, out: &mut [u64; 2]) -> u32 {
+    replies::put_range(string_table::utf8(table, offset), out)
+}
+
+#[no_mangle]
+pub extern "C" fn loadplan_sysv_hash(name: &[u8]) -> u32 {
+    hash::sysv_hash(name)
+}
+
+#[no_mangle]
+pub extern "C" fn loadplan_hash_header(order: u8, table: &[u8], out: &mut [u64; 2]) -> u32 {
+    let k = replies::kind_of(1, order);
+    match k {
+        Ident::Refused(f) => f.number as u32,
+        Ident::Is(_, o) => replies::put_head(hash::header(o, table), out),
+    }
+}
+
+#[no_mangle]
+pub extern "C" fn loadplan_hash_find(
+    class: u8,
+    order: u8,
+    table: &[u8],
+    symbols: &[u8],
+    strings: &[u8],
+    name: &[u8],
+    out: &mut [u64; 2],
+) -> u32 {
+    let k = replies::kind_of(class, order);
+    match k {
+        Ident::Refused(f) => f.number as u32,
+        Ident::Is(c, o) => replies::put_lookup(
+            hash::find(c, o, table, symbols, strings, name),
+            out,
+        ),
+    }
+}
+
+// ---- the load plan
+
+#[no_mangle]
+pub extern "C" fn loadplan_plan(file: &[u8], start: u64, length: u64, table: &mut [u8]) -> Planned {
+    let a = load_plan::plan(file, start, length, table);
+    match a {
+        Answer::Planned(n) => Planned {
+            refusal: 0,
+            reader: 0,
+            records: n as u64,
+        },
+        Answer::Refused(r) => {
+            let f = r.reader;
+            Planned {
+                refusal: r.number as u32,
+                reader: f.number as u32,
+                records: 0,
+            }
+        }
+    }
+}

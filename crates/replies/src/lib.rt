@@ -1,0 +1,290 @@
+// What crosses to C: the values of an answer in a lent array, or the number of a refusal and the array as it was.
+ghost use mathlib.Core.Path.{_≡_};
+use contents::GotSymbols;
+use contents::Symbols;
+use dynamic::GotDyn;
+use elf_bytes::GotTable;
+use elf_bytes::Opened;
+use elf_bytes::Table;
+use endian::Class;
+use endian::Fault;
+use endian::Order;
+use file::FileHeader;
+use file::GotHeader;
+use file::Ident;
+use hash::GotHead;
+use hash::Lookup;
+use lookup::GotFound;
+use parse::Found;
+use parse::GotRange;
+use relocation::GotRel;
+use relocation::GotRela;
+use section::GotSectionHeader;
+use segment::GotProgramHeader;
+use symbol::GotSymbol;
+
+// ---- the class and the order
+
+pub fn kind_of(class: u8, order: u8) -> Ident {
+    if class == 1 {
+        return order_of(Class::Elf32, order);
+    }
+    if class == 2 {
+        return order_of(Class::Elf64, order);
+    }
+    Ident::Refused(Fault { number: 2 })
+}
+
+fn order_of(class: Class, b: u8) -> Ident {
+    if b == 1 {
+        return Ident::Is(class, Order::Little);
+    }
+    if b == 2 {
+        return Ident::Is(class, Order::Big);
+    }
+    Ident::Refused(Fault { number: 3 })
+}
+
+fn class_number(class: Class) -> u64 {
+    match class {
+        Class::Elf32 => 1,
+        Class::Elf64 => 2,
+    }
+}
+
+fn order_number(order: Order) -> u64 {
+    match order {
+        Order::Little => 1,
+        Order::Big => 2,
+    }
+}
+
+// ---- ranges and tables
+
+pub fn put_range(g: GotRange, out: &mut [u64; 2]) -> u32 {
+    match g {
+        GotRange::Refused(f) => f.number as u32,
+        GotRange::Is(r) => {
+            *out = [r.from as u64, r.to as u64];
+            0
+        }
+    }
+}
+
+fn table_row(t: Table) -> [u64; 3] {
+    match t {
+        Table::Absent => [0, 0, 0],
+        Table::At(r) => [1, r.from as u64, r.to as u64],
+    }
+}
+
+pub fn put_table(g: GotTable, out: &mut [u64; 3]) -> u32 {
+    match g {
+        GotTable::Refused(f) => f.number as u32,
+        GotTable::Is(t) => {
+            *out = table_row(t);
+            0
+        }
+    }
+}
+
+fn symbols_row(s: Symbols) -> [u64; 5] {
+    match s {
+        Symbols::Absent => [0, 0, 0, 0, 0],
+        Symbols::At(t) => {
+            let a = t.symbols;
+            let b = t.strings;
+            [1, a.from as u64, a.to as u64, b.from as u64, b.to as u64]
+        }
+    }
+}
+
+pub fn put_symbols(g: GotSymbols, out: &mut [u64; 5]) -> u32 {
+    match g {
+        GotSymbols::Refused(f) => f.number as u32,
+        GotSymbols::Is(s) => {
+            *out = symbols_row(s);
+            0
+        }
+    }
+}
+
+// A section as symbols is there or refused.
+pub fn put_pair(g: GotSymbols, out: &mut [u64; 4]) -> u32 {
+    match g {
+        GotSymbols::Refused(f) => f.number as u32,
+        GotSymbols::Is(s) => {
+            let r = symbols_row(s);
+            *out = [r[1], r[2], r[3], r[4]];
+            0
+        }
+    }
+}
+
+fn found_row(f: Found) -> [u64; 2] {
+    match f {
+        Found::Nothing => [0, 0],
+        Found::At(i) => [1, i as u64],
+    }
+}
+
+pub fn put_found(g: GotFound, out: &mut [u64; 2]) -> u32 {
+    match g {
+        GotFound::Refused(f) => f.number as u32,
+        GotFound::Is(f) => {
+            *out = found_row(f);
+            0
+        }
+    }
+}
+
+pub fn put_lookup(g: Lookup, out: &mut [u64; 2]) -> u32 {
+    match g {
+        Lookup::Refused(f) => f.number as u32,
+        Lookup::Nothing => {
+            *out = [0, 0];
+            0
+        }
+        Lookup::At(i) => {
+            *out = [1, i as u64];
+            0
+        }
+    }
+}
+
+pub fn put_head(g: GotHead, out: &mut [u64; 2]) -> u32 {
+    match g {
+        GotHead::Refused(f) => f.number as u32,
+        GotHead::Is(h) => {
+            *out = [h.buckets as u64, h.chains as u64];
+            0
+        }
+    }
+}
+
+// ---- entries
+
+pub fn put_section(g: GotSectionHeader, out: &mut [u64; 10]) -> u32 {
+    match g {
+        GotSectionHeader::Refused(f) => f.number as u32,
+        GotSectionHeader::Is(x) => {
+            *out = rows::section_row(x);
+            0
+        }
+    }
+}
+
+pub fn put_segment(g: GotProgramHeader, out: &mut [u64; 8]) -> u32 {
+    match g {
+        GotProgramHeader::Refused(f) => f.number as u32,
+        GotProgramHeader::Is(x) => {
+            *out = rows::segment_row(x);
+            0
+        }
+    }
+}
+
+pub fn put_symbol(g: GotSymbol, out: &mut [u64; 6]) -> u32 {
+    match g {
+        GotSymbol::Refused(f) => f.number as u32,
+        GotSymbol::Is(x) => {
+            *out = rows::symbol_row(x);
+            0
+        }
+    }
+}
+
+pub fn put_rel(g: GotRel, out: &mut [u64; 3]) -> u32 {
+    match g {
+        GotRel::Refused(f) => f.number as u32,
+        GotRel::Is(x) => {
+            *out = rows::rel_row(x);
+            0
+        }
+    }
+}
+
+pub fn put_rela(g: GotRela, out: &mut [u64; 4]) -> u32 {
+    match g {
+        GotRela::Refused(f) => f.number as u32,
+        GotRela::Is(x) => {
+            *out = rows::rela_row(x);
+            0
+        }
+    }
+}
+
+pub fn put_dyn(g: GotDyn, out: &mut [u64; 2]) -> u32 {
+    match g {
+        GotDyn::Refused(f) => f.number as u32,
+        GotDyn::Is(x) => {
+            *out = rows::dyn_row(x);
+            0
+        }
+    }
+}
+
+// ---- an opened file
+
+fn wide8(x: u8) -> u64
+    ensures { λ r. ⌜ r ≡ x ⌝ }
+{
+    x as u64
+}
+
+fn wide16(x: u16) -> u64
+    ensures { λ r. ⌜ r ≡ x ⌝ }
+{
+    x as u64
+}
+
+fn wide32(x: u32) -> u64
+    ensures { λ r. ⌜ r ≡ x ⌝ }
+{
+    x as u64
+}
+
+fn head_row(h: FileHeader, s: [u64; 3], p: [u64; 3]) -> [u64; 23] {
+    let class = h.class;
+    let order = h.order;
+    [
+        class_number(class),
+        order_number(order),
+        wide8(h.osabi),
+        wide8(h.abiversion),
+        wide32(h.version),
+        wide16(h.kind),
+        wide16(h.machine),
+        h.entry,
+        h.phoff,
+        h.shoff,
+        wide32(h.flags),
+        wide16(h.ehsize),
+        wide16(h.phentsize),
+        wide16(h.phnum),
+        wide16(h.shentsize),
+        wide16(h.shnum),
+        wide16(h.shstrndx),
+        s[0],
+        s[1],
+        s[2],
+        p[0],
+        p[1],
+        p[2],
+    ]
+}
+
+pub fn put_opened(g: GotHeader, o: Opened, out: &mut [u64; 23]) -> u32 {
+    match g {
+        GotHeader::Refused(f) => f.number as u32,
+        GotHeader::Is(h) => match o {
+            Opened::Refused(f) => f.number as u32,
+            Opened::Is(elf) => {
+                let s = elf.sections;
+                let p = elf.segments;
+                *out = head_row(h, table_row(s), table_row(p));
+                0
+            }
+        },
+    }
+}

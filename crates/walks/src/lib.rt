@@ -1,0 +1,4 @@
+// walks
+pub fn zero() -> usize {
+    0
+}
