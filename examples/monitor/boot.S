@@ -7,7 +7,7 @@
 #include "layout.h"
 
 #define MULTIBOOT_MAGIC 0x1badb002
-#define CR0_PROTECTION_ON 0x80010003 /* PG, WP, MP, PE */
+#define CR0_PROTECTION_ON 0x80010023 /* PG, WP, NE, MP, PE */
 #define CR0_EMULATE_FLOAT 0x4
 #define CR4_FEATURES 0x620           /* PAE, OSFXSR and OSXMMEXCPT: the compiled library uses vector registers */
 #define EFER 0xc0000080

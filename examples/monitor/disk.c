@@ -11,7 +11,7 @@ enum {
     DRIVE = 0x1f6,
     COMMAND = 0x1f7,
     STATUS = 0x1f7,
-    CONTROL = 0x3f6,
+    CONTROL = 0x3f6, /* written: control; read: the status once more */
     NO_INTERRUPTS = 2,
     FIRST_DISK_BY_SECTOR_NUMBER = 0xe0,
     READ_SECTORS = 0x20,
@@ -22,9 +22,17 @@ enum {
     PATIENCE = 10000000 /* polls before a disk that stays busy counts as broken */
 };
 
+/* The status is valid only 400 ns after a disk was chosen or told what to do; a read of a port takes 100. */
+static void settle(void)
+{
+    for (int k = 0; k < 4; k++)
+        in8(CONTROL);
+}
+
 /* Waits until the disk has data or a fault; answers whether it has data. */
 static bool data_comes(void)
 {
+    settle();
     for (int polls = 0; polls < PATIENCE; polls++) {
         uint8_t status = in8(STATUS);
         if (status & BUSY)
@@ -41,6 +49,7 @@ static bool read_one(uint32_t number, uint8_t *to)
 {
     out8(CONTROL, NO_INTERRUPTS);
     out8(DRIVE, (uint8_t)(FIRST_DISK_BY_SECTOR_NUMBER | number >> 24));
+    settle();
     out8(SECTOR_COUNT, 1);
     out8(ADDRESS_LOW, (uint8_t)number);
     out8(ADDRESS_MIDDLE, (uint8_t)(number >> 8));

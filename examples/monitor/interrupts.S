@@ -1,6 +1,6 @@
 /* The way into a program and the two ways back: system calls and faults.
  *
- * enter_program(entry, stack) starts a program on privilege level 3 with all registers 0 and returns when
+ * enter_program(entry, stack) starts a program on privilege level 3 with all registers clear and returns when
  * leave_program() is called, which happens from within an interrupt of that program (traps.c).
  */
 #include "layout.h"
@@ -22,6 +22,7 @@ enter_program:
     push $FLAGS_INTERRUPTS_OFF
     push $PROGRAM_CODE_SELECTOR
     push %rdi
+    fxrstor clear_registers(%rip)
     xor %eax, %eax
     xor %ebx, %ebx
     xor %ecx, %ecx
@@ -108,7 +109,12 @@ interrupt_common:
     iretq
 
     .section .rodata
-    .align 8
+    .align 16
+clear_registers: /* floating point and vectors, as after reset: all exceptions masked */
+    .word 0x37f
+    .skip 22
+    .long 0x1f80
+    .skip 484
     .globl interrupt_entries
 interrupt_entries:
     .macro entry_address vector

@@ -88,6 +88,8 @@ void monitor_main(void)
     paging_start();
     uint64_t own = monitor_checksum();
     struct tray tray = tray_look();
+    if (tray.cards == 0)
+        print("no card\n");
     for (uint64_t number = 0; number < tray.cards; number++) {
         serve(&tray, number);
         if (monitor_checksum() != own) {

@@ -1,8 +1,9 @@
 /* How not to do it: a loader as it stands in many monitors, to show that the test's two faults are real.
  *
  * It copies each segment to where its header says and clears the difference of the two sizes; it asks neither how long
- * the file is nor where the window ends, and leaves the rest of each page as it was. It writes with the processor's
- * write protection off, as monitors without one do. The test links it in place of loadplan_load, on the same cards.
+ * the file is nor where the window ends, and leaves the rest of each page as it was. It turns the monitor's write
+ * protection off, as in monitors that have none, unless KEEP_PROTECTION is defined. The test links it in place of
+ * loadplan_load, on the same cards.
  */
 #include <string.h>
 
@@ -19,8 +20,10 @@ struct loadplan_planned careless_load(const uint8_t *file, size_t file_len, uint
 
 static void write_protection_off(void)
 {
+#ifndef KEEP_PROTECTION
     uint64_t cr0;
     __asm__ volatile("mov %%cr0, %0; and $~0x10000, %0; mov %0, %%cr0" : "=&r"(cr0) : : "memory");
+#endif
 }
 
 static uint64_t put_record(const struct program_header *header, uint8_t *to)
