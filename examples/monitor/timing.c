@@ -33,6 +33,8 @@ static void print_time(const char *what, uint64_t count)
 
 void print_times(void)
 {
+    if (cycles_at_first_output == 0)
+        return;
     print_time("from reset to the first output of a program", cycles_at_first_output);
     print_time("of these before the monitor's first instruction", cycles_at_start);
     print_time("for the plan of the last card loaded", plan_cycles);

@@ -10,7 +10,8 @@
  * and keeps the cycles of each. */
 void time_apart(const struct card *card, uint64_t start);
 
-/* Prints the cycles of the last card that was loaded, and those from the machine's reset to the first output. */
+/* Prints the cycles from the machine's reset to the first output, and those of the last card that was loaded; nothing
+ * where no program printed anything. */
 void print_times(void);
 
 #endif
