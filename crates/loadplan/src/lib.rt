@@ -159,6 +159,11 @@ pub extern "C" fn loadplan_dynamic(file: &[u8], out: &mut [u64; 3]) -> u32 {
     replies::put_table(lookup::dynamic(file), out)
 }
 
+#[no_mangle]
+pub extern "C" fn loadplan_common(file: &[u8], out: &mut [u64; 16]) -> u32 {
+    replies::put_common(common::common_data(file), out)
+}
+
 // ---- tables
 
 #[no_mangle]
@@ -363,9 +368,7 @@ pub extern "C" fn loadplan_hash_find(
 
 // ---- the load plan
 
-#[no_mangle]
-pub extern "C" fn loadplan_plan(file: &[u8], start: u64, length: u64, table: &mut [u8]) -> Planned {
-    let a = load_plan::plan(file, start, length, table);
+fn planned_of(a: Answer) -> Planned {
     match a {
         Answer::Planned(n) => Planned {
             refusal: 0,
@@ -381,4 +384,32 @@ pub extern "C" fn loadplan_plan(file: &[u8], start: u64, length: u64, table: &mu
             }
         }
     }
+}
+
+#[no_mangle]
+pub extern "C" fn loadplan_plan(file: &[u8], start: u64, length: u64, table: &mut [u8]) -> Planned {
+    planned_of(load_plan::plan(file, start, length, table))
+}
+
+#[no_mangle]
+pub extern "C" fn loadplan_carry_out(
+    file: &[u8],
+    start: u64,
+    length: u64,
+    table: &[u8],
+    records: u64,
+    memory: &mut [u8],
+) -> u32 {
+    load_image::carry_out(file, start, length, table, records as usize, memory) as u32
+}
+
+#[no_mangle]
+pub extern "C" fn loadplan_load(
+    file: &[u8],
+    start: u64,
+    length: u64,
+    table: &mut [u8],
+    memory: &mut [u8],
+) -> Planned {
+    planned_of(load_image::load(file, start, length, table, memory))
 }
