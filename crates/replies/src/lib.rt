@@ -1,5 +1,6 @@
 // What crosses to C: the values of an answer in a lent array, or the number of a refusal and the array as it was.
 ghost use mathlib.Core.Path.{_≡_};
+use common::GotCommon;
 use contents::GotSymbols;
 use contents::Symbols;
 use dynamic::GotDyn;
@@ -286,5 +287,40 @@ pub fn put_opened(g: GotHeader, o: Opened, out: &mut [u64; 23]) -> u32 {
                 0
             }
         },
+    }
+}
+
+fn common_row(s: [u64; 5], y: [u64; 5], d: [u64; 3], h: [u64; 3]) -> [u64; 16] {
+    [
+        s[0],
+        s[1],
+        s[2],
+        s[3],
+        s[4],
+        y[0],
+        y[1],
+        y[2],
+        y[3],
+        y[4],
+        d[0],
+        d[1],
+        d[2],
+        h[0],
+        h[1],
+        h[2],
+    ]
+}
+
+pub fn put_common(g: GotCommon, out: &mut [u64; 16]) -> u32 {
+    match g {
+        GotCommon::Refused(f) => f.number as u32,
+        GotCommon::Is(c) => {
+            let s = c.symtab;
+            let y = c.dynsym;
+            let d = c.dynamic;
+            let h = c.hash;
+            *out = common_row(symbols_row(s), symbols_row(y), table_row(d), table_row(h));
+            0
+        }
     }
 }
