@@ -393,7 +393,7 @@ pub extern "C" fn loadplan_hash_find(
 
 // ---- the load plan
 
-fn planned(a: Answer) -> Planned {
+fn told(a: Answer) -> Planned {
     match a {
         Answer::Planned(n) => Planned {
             refusal: 0,
@@ -413,7 +413,7 @@ fn planned(a: Answer) -> Planned {
 
 #[no_mangle]
 pub extern "C" fn loadplan_plan(file: &[u8], start: u64, length: u64, table: &mut [u8]) -> Planned {
-    planned(load_plan::plan(file, start, length, table))
+    told(load_plan::plan(file, start, length, table))
 }
 
 #[no_mangle]
@@ -436,5 +436,5 @@ pub extern "C" fn loadplan_load(
     table: &mut [u8],
     memory: &mut [u8],
 ) -> Planned {
-    planned(load_image::load(file, start, length, table, memory))
+    told(load_image::load(file, start, length, table, memory))
 }
