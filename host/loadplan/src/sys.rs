@@ -24,11 +24,11 @@ extern "C" {
     fn loadplan_segment_at(file: *const u8, file_len: usize, i: usize, out: &mut [u64; 8]) -> u32;
     fn loadplan_name_table(file: *const u8, file_len: usize, out: &mut [u64; 3]) -> u32;
     fn loadplan_section_by_name(file: *const u8, file_len: usize, name: *const u8, name_len: usize, out: &mut [u64; 2]) -> u32;
-    fn loadplan_section_data(file: *const u8, file_len: usize, type_: u32, offset: u64, size: u64, out: &mut [u64; 2]) -> u32;
-    fn loadplan_section_strings(file: *const u8, file_len: usize, type_: u32, offset: u64, size: u64, out: &mut [u64; 2]) -> u32;
-    fn loadplan_section_rels(file: *const u8, file_len: usize, type_: u32, offset: u64, size: u64, out: &mut [u64; 2]) -> u32;
-    fn loadplan_section_relas(file: *const u8, file_len: usize, type_: u32, offset: u64, size: u64, out: &mut [u64; 2]) -> u32;
-    fn loadplan_section_dynamic(file: *const u8, file_len: usize, type_: u32, offset: u64, size: u64, entsize: u64, out: &mut [u64; 2]) -> u32;
+    fn loadplan_section_data(file: *const u8, file_len: usize, kind: u32, offset: u64, size: u64, out: &mut [u64; 2]) -> u32;
+    fn loadplan_section_strings(file: *const u8, file_len: usize, kind: u32, offset: u64, size: u64, out: &mut [u64; 2]) -> u32;
+    fn loadplan_section_rels(file: *const u8, file_len: usize, kind: u32, offset: u64, size: u64, out: &mut [u64; 2]) -> u32;
+    fn loadplan_section_relas(file: *const u8, file_len: usize, kind: u32, offset: u64, size: u64, out: &mut [u64; 2]) -> u32;
+    fn loadplan_section_dynamic(file: *const u8, file_len: usize, kind: u32, offset: u64, size: u64, entsize: u64, out: &mut [u64; 2]) -> u32;
     fn loadplan_section_symbols(file: *const u8, file_len: usize, offset: u64, size: u64, link: u32, entsize: u64, out: &mut [u64; 4]) -> u32;
     fn loadplan_segment_data(file: *const u8, file_len: usize, offset: u64, filesz: u64, out: &mut [u64; 2]) -> u32;
     fn loadplan_symbol_table(file: *const u8, file_len: usize, out: &mut [u64; 5]) -> u32;
