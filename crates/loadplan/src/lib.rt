@@ -3,6 +3,7 @@
 ghost use mathlib.Core.Path.{_≡_};
 use file::Ident;
 use load_plan::Answer;
+use walks::Kind;
 
 // A plan's answer.
 #[repr(C)]
@@ -264,7 +265,11 @@ pub extern "C" fn loadplan_sections(
     from: usize,
     out: &mut [u64],
 ) -> usize {
-    0
+    let k = replies::kind_of(class, order);
+    match k {
+        Ident::Refused(_) => 0,
+        Ident::Is(c, o) => walks::walk(Kind::Section, c, o, table, from, out),
+    }
 }
 
 #[no_mangle]
@@ -275,7 +280,11 @@ pub extern "C" fn loadplan_segments(
     from: usize,
     out: &mut [u64],
 ) -> usize {
-    0
+    let k = replies::kind_of(class, order);
+    match k {
+        Ident::Refused(_) => 0,
+        Ident::Is(c, o) => walks::walk(Kind::Segment, c, o, table, from, out),
+    }
 }
 
 #[no_mangle]
@@ -286,7 +295,11 @@ pub extern "C" fn loadplan_symbols(
     from: usize,
     out: &mut [u64],
 ) -> usize {
-    0
+    let k = replies::kind_of(class, order);
+    match k {
+        Ident::Refused(_) => 0,
+        Ident::Is(c, o) => walks::walk(Kind::Symbol, c, o, table, from, out),
+    }
 }
 
 #[no_mangle]
@@ -297,7 +310,11 @@ pub extern "C" fn loadplan_rels(
     from: usize,
     out: &mut [u64],
 ) -> usize {
-    0
+    let k = replies::kind_of(class, order);
+    match k {
+        Ident::Refused(_) => 0,
+        Ident::Is(c, o) => walks::walk(Kind::Rel, c, o, table, from, out),
+    }
 }
 
 #[no_mangle]
@@ -308,7 +325,11 @@ pub extern "C" fn loadplan_relas(
     from: usize,
     out: &mut [u64],
 ) -> usize {
-    0
+    let k = replies::kind_of(class, order);
+    match k {
+        Ident::Refused(_) => 0,
+        Ident::Is(c, o) => walks::walk(Kind::Rela, c, o, table, from, out),
+    }
 }
 
 #[no_mangle]
@@ -319,7 +340,11 @@ pub extern "C" fn loadplan_dyns(
     from: usize,
     out: &mut [u64],
 ) -> usize {
-    0
+    let k = replies::kind_of(class, order);
+    match k {
+        Ident::Refused(_) => 0,
+        Ident::Is(c, o) => walks::walk(Kind::Dyn, c, o, table, from, out),
+    }
 }
 
 #[no_mangle]
@@ -368,7 +393,7 @@ pub extern "C" fn loadplan_hash_find(
 
 // ---- the load plan
 
-fn planned_of(a: Answer) -> Planned {
+fn told(a: Answer) -> Planned {
     match a {
         Answer::Planned(n) => Planned {
             refusal: 0,
@@ -388,7 +413,7 @@ fn planned_of(a: Answer) -> Planned {
 
 #[no_mangle]
 pub extern "C" fn loadplan_plan(file: &[u8], start: u64, length: u64, table: &mut [u8]) -> Planned {
-    planned_of(load_plan::plan(file, start, length, table))
+    told(load_plan::plan(file, start, length, table))
 }
 
 #[no_mangle]
@@ -411,5 +436,5 @@ pub extern "C" fn loadplan_load(
     table: &mut [u8],
     memory: &mut [u8],
 ) -> Planned {
-    planned_of(load_image::load(file, start, length, table, memory))
+    told(load_image::load(file, start, length, table, memory))
 }
