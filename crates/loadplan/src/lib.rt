@@ -3,6 +3,7 @@
 ghost use mathlib.Core.Path.{_≡_};
 use file::Ident;
 use load_plan::Answer;
+use walks::Kind;
 
 // A plan's answer.
 #[repr(C)]
@@ -159,6 +160,11 @@ pub extern "C" fn loadplan_dynamic(file: &[u8], out: &mut [u64; 3]) -> u32 {
     replies::put_table(lookup::dynamic(file), out)
 }
 
+#[no_mangle]
+pub extern "C" fn loadplan_common(file: &[u8], out: &mut [u64; 16]) -> u32 {
+    replies::put_common(common::common_data(file), out)
+}
+
 // ---- tables
 
 #[no_mangle]
@@ -259,7 +265,11 @@ pub extern "C" fn loadplan_sections(
     from: usize,
     out: &mut [u64],
 ) -> usize {
-    0
+    let k = replies::kind_of(class, order);
+    match k {
+        Ident::Refused(_) => 0,
+        Ident::Is(c, o) => walks::walk(Kind::Section, c, o, table, from, out),
+    }
 }
 
 #[no_mangle]
@@ -270,7 +280,11 @@ pub extern "C" fn loadplan_segments(
     from: usize,
     out: &mut [u64],
 ) -> usize {
-    0
+    let k = replies::kind_of(class, order);
+    match k {
+        Ident::Refused(_) => 0,
+        Ident::Is(c, o) => walks::walk(Kind::Segment, c, o, table, from, out),
+    }
 }
 
 #[no_mangle]
@@ -281,7 +295,11 @@ pub extern "C" fn loadplan_symbols(
     from: usize,
     out: &mut [u64],
 ) -> usize {
-    0
+    let k = replies::kind_of(class, order);
+    match k {
+        Ident::Refused(_) => 0,
+        Ident::Is(c, o) => walks::walk(Kind::Symbol, c, o, table, from, out),
+    }
 }
 
 #[no_mangle]
@@ -292,7 +310,11 @@ pub extern "C" fn loadplan_rels(
     from: usize,
     out: &mut [u64],
 ) -> usize {
-    0
+    let k = replies::kind_of(class, order);
+    match k {
+        Ident::Refused(_) => 0,
+        Ident::Is(c, o) => walks::walk(Kind::Rel, c, o, table, from, out),
+    }
 }
 
 #[no_mangle]
@@ -303,7 +325,11 @@ pub extern "C" fn loadplan_relas(
     from: usize,
     out: &mut [u64],
 ) -> usize {
-    0
+    let k = replies::kind_of(class, order);
+    match k {
+        Ident::Refused(_) => 0,
+        Ident::Is(c, o) => walks::walk(Kind::Rela, c, o, table, from, out),
+    }
 }
 
 #[no_mangle]
@@ -314,7 +340,11 @@ pub extern "C" fn loadplan_dyns(
     from: usize,
     out: &mut [u64],
 ) -> usize {
-    0
+    let k = replies::kind_of(class, order);
+    match k {
+        Ident::Refused(_) => 0,
+        Ident::Is(c, o) => walks::walk(Kind::Dyn, c, o, table, from, out),
+    }
 }
 
 #[no_mangle]
@@ -363,9 +393,7 @@ pub extern "C" fn loadplan_hash_find(
 
 // ---- the load plan
 
-#[no_mangle]
-pub extern "C" fn loadplan_plan(file: &[u8], start: u64, length: u64, table: &mut [u8]) -> Planned {
-    let a = load_plan::plan(file, start, length, table);
+fn told(a: Answer) -> Planned {
     match a {
         Answer::Planned(n) => Planned {
             refusal: 0,
@@ -381,4 +409,32 @@ pub extern "C" fn loadplan_plan(file: &[u8], start: u64, length: u64, table: &mu
             }
         }
     }
+}
+
+#[no_mangle]
+pub extern "C" fn loadplan_plan(file: &[u8], start: u64, length: u64, table: &mut [u8]) -> Planned {
+    told(load_plan::plan(file, start, length, table))
+}
+
+#[no_mangle]
+pub extern "C" fn loadplan_carry_out(
+    file: &[u8],
+    start: u64,
+    length: u64,
+    table: &[u8],
+    records: u64,
+    memory: &mut [u8],
+) -> u32 {
+    load_image::carry_out(file, start, length, table, records as usize, memory) as u32
+}
+
+#[no_mangle]
+pub extern "C" fn loadplan_load(
+    file: &[u8],
+    start: u64,
+    length: u64,
+    table: &mut [u8],
+    memory: &mut [u8],
+) -> Planned {
+    told(load_image::load(file, start, length, table, memory))
 }
