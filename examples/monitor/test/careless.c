@@ -1,4 +1,4 @@
-/* How not to do it: a loader as it stands in many monitors, to show that the test's two faults are real.
+/* How not to do it: a loader written for this test to have the two faults, to show that the test would see them.
  *
  * It copies each segment to where its header says and clears the difference of the two sizes; it asks neither how long
  * the file is nor where the window ends, and leaves the rest of each page as it was. It turns the monitor's write
