@@ -3,3 +3,4 @@
 pub mod Laws
 pub mod Written
 pub mod Signed
+pub mod Alike

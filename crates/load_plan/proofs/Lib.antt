@@ -3,3 +3,4 @@ pub mod Order
 pub mod Clash
 pub mod Table
 pub mod Accept
+pub mod Narrow

@@ -19,6 +19,9 @@ use endian::Order;
 use load_rules::Window;
 use segment::ProgramHeader;
 
+// The longest file: 1 GiB.
+const MAX_FILE: usize = 1073741824;
+
 // What the plan asks of an opened file: its type and entry point, and where its program headers stand.
 pub struct Job {
     pub class: Class,
@@ -76,7 +79,7 @@ fn job_of(f: &[u8], elf: Elf) -> Begun
 pub fn begin(f: &[u8]) -> Begun
     ensures { λ r. ⌜ r ≡ begunOf (now (f .entry)) ⌝ }
 {
-    if f.len() <= 1073741824 {
+    if f.len() <= MAX_FILE {
         let o = elf_bytes::open(f);
         match o {
             Opened::Refused(x) => Begun::Refused(x),

@@ -9,6 +9,9 @@ ghost use Rattle.load_rules.specs.Facts.{Placed};
 use records::Record;
 use segment::ProgramHeader;
 
+// The longest window: 4 GiB.
+const MAX_WINDOW: u64 = 4294967296;
+
 // Where a file may be loaded: start and length, in bytes.
 pub struct Window {
     pub start: u64,
@@ -90,7 +93,7 @@ pub fn is_good(w: Window) -> bool
 {
     let end = 18446744073709551615 - w.start;
     ((w.start % 4096 == 0) & (w.len % 4096 == 0))
-        & ((w.len <= 4294967296) & ((w.len == 0) | (memory::less(w.len, 1) <= end)))
+        & ((w.len <= MAX_WINDOW) & ((w.len == 0) | (memory::less(w.len, 1) <= end)))
 }
 
 // Where a segment's pages start and end, counted from the window's start.

@@ -2,3 +2,4 @@
 -- Assumes nothing.
 pub mod Same
 pub mod Filled
+pub mod Alike
