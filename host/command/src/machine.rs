@@ -33,7 +33,14 @@ const PR_SET_PDEATHSIG: c_int = 1;
 const SIGKILL: std::os::raw::c_ulong = 9;
 
 extern "C" {
-    fn mmap(address: *mut c_void, length: usize, protection: c_int, flags: c_int, file: c_int, offset: i64) -> *mut c_void;
+    fn mmap(
+        address: *mut c_void,
+        length: usize,
+        protection: c_int,
+        flags: c_int,
+        file: c_int,
+        offset: i64,
+    ) -> *mut c_void;
     fn munmap(address: *mut c_void, length: usize) -> c_int;
     fn mprotect(address: *mut c_void, length: usize, protection: c_int) -> c_int;
     fn fork() -> c_int;

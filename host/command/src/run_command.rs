@@ -58,7 +58,8 @@ pub fn run(mut arguments: Arguments, output: &mut dyn Write) -> Result<Verdict, 
         loaded = load_blind(&file, window, &mut table, &mut mapping)?.map(|()| window);
         if loaded.is_ok() {
             output.flush()?;
-            let ended = machine::run(entry(&file, window)).map_err(|fault| Fault::new(format_args!("no child: {fault}")))?;
+            let ended =
+                machine::run(entry(&file, window)).map_err(|fault| Fault::new(format_args!("no child: {fault}")))?;
             return Ok(ended_with(&path, ended));
         }
     }
@@ -111,7 +112,12 @@ fn largest_alignment(elf: &ElfBytes<'_, AnyEndian>) -> u64 {
 }
 
 /// Fills the window, loads the program over that, and takes away what the records do not allow.
-fn load_blind(file: &[u8], window: Window, table: &mut [u8], mapping: &mut Mapping) -> Result<Result<(), Refusal>, Fault> {
+fn load_blind(
+    file: &[u8],
+    window: Window,
+    table: &mut [u8],
+    mapping: &mut Mapping,
+) -> Result<Result<(), Refusal>, Fault> {
     let memory = mapping.bytes(window.start, window.length).map_err(no_memory)?;
     memory.fill(FILL);
     let plan = match load(file, window, table, memory) {

@@ -52,7 +52,9 @@ pub fn run(arguments: Arguments, output: &mut dyn Write) -> Result<Verdict, Faul
 /// A name as it may be written to a terminal.
 fn visible(name: &[u8]) -> String {
     let text = String::from_utf8_lossy(name);
-    text.chars().flat_map(|letter| if letter.is_control() { letter.escape_default().collect() } else { vec![letter] }).collect()
+    text.chars()
+        .flat_map(|letter| if letter.is_control() { letter.escape_default().collect() } else { vec![letter] })
+        .collect()
 }
 
 /// The string at an offset, or why there is none.

@@ -10,7 +10,15 @@ use std::process::Output;
 use common::{loadplan, made, repository, text, tool, Folder};
 
 /// Small, without a C library, all segments of its own pages.
-const SMALL: [&str; 7] = ["-nostdlib", "-ffreestanding", "-fno-stack-protector", "-O1", "-s", "-Wl,--build-id=none", "-Wl,-z,noseparate-code"];
+const SMALL: [&str; 7] = [
+    "-nostdlib",
+    "-ffreestanding",
+    "-fno-stack-protector",
+    "-O1",
+    "-s",
+    "-Wl,--build-id=none",
+    "-Wl,-z,noseparate-code",
+];
 /// The same position independent.
 const INDEPENDENT: [&str; 2] = ["-static-pie", "-fPIE"];
 const FIXED: [&str; 2] = ["-static", "-fno-pie"];
@@ -98,7 +106,8 @@ fn protections_hold() {
 
 #[test]
 fn files_that_are_not_for_here_are_refused() {
-    for (name, reason) in [("powerpc-static", "no program for x86-64"), ("x86-64-caller", "asks for a dynamic loader")] {
+    for (name, reason) in [("powerpc-static", "no program for x86-64"), ("x86-64-caller", "asks for a dynamic loader")]
+    {
         let output = run(&made(name), &[]);
         assert_eq!(output.status.code(), Some(1));
         assert!(text(&output.stderr).contains(reason), "{}", text(&output.stderr));

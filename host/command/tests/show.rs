@@ -47,7 +47,11 @@ fn strings(fields: &[&str]) -> Vec<String> {
 /// Hexadecimal digits without what may stand in front of them.
 fn hex(digits: &str) -> String {
     let trimmed = digits.trim_start_matches("0x").trim_start_matches('0');
-    if trimmed.is_empty() { "0".to_string() } else { trimmed.to_string() }
+    if trimmed.is_empty() {
+        "0".to_string()
+    } else {
+        trimmed.to_string()
+    }
 }
 
 /// The lines between one that starts with `heading` and the next empty one.
@@ -66,7 +70,8 @@ mod ours {
             header: lines_behind(text, "header").iter().map(|line| header_line(line)).collect(),
             segments: rows("segments:").iter().map(|line| segment(line)).collect(),
             sections: rows("sections:").iter().map(|line| section(line)).collect(),
-            symbols: ["symbols:", "dynamic symbols:"].map(|heading| rows(heading).iter().map(|line| symbol(line)).collect()),
+            symbols: ["symbols:", "dynamic symbols:"]
+                .map(|heading| rows(heading).iter().map(|line| symbol(line)).collect()),
             dynamic: lines_behind(text, "dynamic entries:").iter().map(|line| strings(&words(line)[..2])).collect(),
         }
     }
@@ -146,8 +151,10 @@ mod readelfs {
             return None;
         }
         let flags = fields[6..fields.len() - 1].concat();
-        let protection: String =
-            [('R', 'r'), ('W', 'w'), ('E', 'x')].iter().map(|&(theirs, ours)| if flags.contains(theirs) { ours } else { '-' }).collect();
+        let protection: String = [('R', 'r'), ('W', 'w'), ('E', 'x')]
+            .iter()
+            .map(|&(theirs, ours)| if flags.contains(theirs) { ours } else { '-' })
+            .collect();
         let mut row = vec![fields[0].to_string()];
         row.extend(fields[1..6].iter().map(|field| hex(field)));
         row.extend([protection, hex(fields[fields.len() - 1])]);
@@ -160,7 +167,8 @@ mod readelfs {
         let number: usize = number.trim().parse().ok()?;
         let fields = words(rest);
         // The address is the first field of many hexadecimal digits behind the type.
-        let address = fields.iter().position(|field| field.len() >= 8 && field.chars().all(|digit| digit.is_ascii_hexdigit()))?;
+        let address =
+            fields.iter().position(|field| field.len() >= 8 && field.chars().all(|digit| digit.is_ascii_hexdigit()))?;
         let name = if address >= 2 && fields[0] != "<no-strings>" { fields[0] } else { "" };
         let tail = &fields[address + 4..];
         let (flags, tail) = if tail.len() == 4 { (tail[0], &tail[1..]) } else { ("-", tail) };

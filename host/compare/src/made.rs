@@ -31,7 +31,8 @@ fn named(name: &str, bytes: Vec<u8>) -> Made {
 /// A program of 192 bytes that ends at once: 184 bytes to read and execute at 400000, 8 to read and write at 4010b8 (hex),
 /// where they have 24 in memory.
 pub fn sample() -> Vec<u8> {
-    let code = Segment { kind: 1, flags: 5, offset: 0, address: 0x40_0000, in_file: 0xb8, in_memory: 0xb8, align: 4096 };
+    let code =
+        Segment { kind: 1, flags: 5, offset: 0, address: 0x40_0000, in_file: 0xb8, in_memory: 0xb8, align: 4096 };
     let data = Segment { kind: 1, flags: 6, offset: 0xb8, address: 0x40_10b8, in_file: 8, in_memory: 24, align: 4096 };
     let mut parts = Parts::new(WIDE);
     let segments_at = parts.add_segments(&[code, data]);
@@ -52,12 +53,30 @@ fn counts_in_section_0(kind: Kind) -> Vec<u8> {
     let load = Segment { kind: 1, flags: 5, offset: code_at, address: 0x1000, in_file: 16, in_memory: 16, align: 16 };
     let note = Segment { kind: 4, flags: 4, offset: code_at, align: 4, ..Segment::default() };
     let segments_at = parts.add_segments(&[load, note]);
-    let text = Section { name: 1, kind: 1, flags: 6, address: 0x1000, offset: code_at, size: 16, align: 4, ..Section::default() };
-    let names = Section { name: 7, kind: 3, offset: strings_at, size: strings.len() as u64, align: 1, ..Section::default() };
+    let text = Section {
+        name: 1,
+        kind: 1,
+        flags: 6,
+        address: 0x1000,
+        offset: code_at,
+        size: 16,
+        align: 4,
+        ..Section::default()
+    };
+    let names =
+        Section { name: 7, kind: 3, offset: strings_at, size: strings.len() as u64, align: 1, ..Section::default() };
     let odd = Section { name: 14, kind: 1, offset: code_at, size: 4, align: 1, ..Section::default() };
     let counts = Section { size: 4, link: 2, info: 2, ..Section::default() };
     let sections_at = parts.add_sections(&[counts, text, names, odd]);
-    parts.file(Header { kind: 2, entry: 0x1000, segments_at, sections_at, segments: 0xffff, sections: 0, names: 0xffff })
+    parts.file(Header {
+        kind: 2,
+        entry: 0x1000,
+        segments_at,
+        sections_at,
+        segments: 0xffff,
+        sections: 0,
+        names: 0xffff,
+    })
 }
 
 fn some_dynamic_entries(kind: Kind) -> Vec<u8> {
@@ -72,7 +91,15 @@ fn segments_only(kind: Kind) -> Vec<u8> {
     let dynamic_at = parts.add(8, &dynamic);
     let all = dynamic_at + size;
     let load = Segment { kind: 1, flags: 6, in_file: all, in_memory: all, align: 4096, ..Segment::default() };
-    let entries = Segment { kind: 2, flags: 6, offset: dynamic_at, address: dynamic_at, in_file: size, in_memory: size, align: 8 };
+    let entries = Segment {
+        kind: 2,
+        flags: 6,
+        offset: dynamic_at,
+        address: dynamic_at,
+        in_file: size,
+        in_memory: size,
+        align: 8,
+    };
     let segments_at = parts.add_segments(&[load, entries]);
     parts.file(Header { kind: 3, segments_at, segments: 2, ..Header::default() })
 }
@@ -91,7 +118,15 @@ fn dynamic_segment_one_section(kind: Kind) -> Vec<u8> {
     let size = dynamic.len() as u64;
     let mut parts = Parts::new(kind);
     let dynamic_at = parts.add(8, &dynamic);
-    let entries = Segment { kind: 2, flags: 6, offset: dynamic_at, address: dynamic_at, in_file: size, in_memory: size, align: 8 };
+    let entries = Segment {
+        kind: 2,
+        flags: 6,
+        offset: dynamic_at,
+        address: dynamic_at,
+        in_file: size,
+        in_memory: size,
+        align: 8,
+    };
     let segments_at = parts.add_segments(&[entries]);
     let sections_at = parts.add_sections(&[Section::default()]);
     parts.file(Header { kind: 3, segments_at, sections_at, segments: 1, sections: 1, ..Header::default() })
@@ -117,8 +152,10 @@ const PART: u64 = 64;
 /// The smallest files of docs/DIFFERENCES.md, by the names that it has for them.
 fn differences() -> Vec<Made> {
     let one = |part: &[u8], section| sections_only(WIDE, 3, 1, 0, part, &[section]);
-    let symbols = |offset, size, link, entry_size| Section { kind: 2, offset, size, link, entry_size, ..Section::default() };
-    let dynamic = |flags, size| Section { kind: 6, flags, offset: PART, size, align: 8, entry_size: 16, ..Section::default() };
+    let symbols =
+        |offset, size, link, entry_size| Section { kind: 2, offset, size, link, entry_size, ..Section::default() };
+    let dynamic =
+        |flags, size| Section { kind: 6, flags, offset: PART, size, align: 8, entry_size: 16, ..Section::default() };
     let strings = |offset, size| Section { kind: 3, offset, size, ..Section::default() };
     let table_of_two = |first, second| sections_only(WIDE, 1, 2, 0, &[], &[first, second]);
     vec![
@@ -129,7 +166,10 @@ fn differences() -> Vec<Made> {
         named("names-in-section-0", sections_only(WIDE, 1, 1, 0xffff, &[], &[Section::default()])),
         named("name-not-utf8", name_not_utf8()),
         named("part-of-a-symbol", table_of_two(symbols(0, 10, 1, 24), strings(0, 16))),
-        named("data-of-section-0", sections_only(WIDE, 1, 0, 0, &[], &[Section { size: 2, ..Section::default() }, Section::default()])),
+        named(
+            "data-of-section-0",
+            sections_only(WIDE, 1, 0, 0, &[], &[Section { size: 2, ..Section::default() }, Section::default()]),
+        ),
         named("compressed-dynamic-16", one(&WIDE.dynamic(&[(0, 0)]), dynamic(0x800, 16))),
         named("compressed-dynamic-40", one(&WIDE.dynamic(&[(1, 0), (14, 0), (10, 0)])[..40], dynamic(0x800, 40))),
         named("dynamic-behind-null", one(&WIDE.dynamic(&[(0, 0), (1, 5)]), dynamic(0, 32))),

@@ -87,9 +87,14 @@ mod c {
 
     pub fn functions() -> Functions {
         let text = without(&read(&repository().join("include/loadplan.h")), "/*", "*/");
-        let text: String = text.lines().filter(|line| !line.trim_start().starts_with('#')).collect::<Vec<_>>().join("\n");
+        let text: String =
+            text.lines().filter(|line| !line.trim_start().starts_with('#')).collect::<Vec<_>>().join("\n");
         let text = without(&text.replace("extern \"C\" {", ""), "{", "}");
-        text.split(';').map(in_one_line).filter(|statement| statement.contains('(')).map(|statement| function(&statement)).collect()
+        text.split(';')
+            .map(in_one_line)
+            .filter(|statement| statement.contains('('))
+            .map(|statement| function(&statement))
+            .collect()
     }
 
     fn function(statement: &str) -> (String, Function) {
@@ -165,14 +170,16 @@ mod rust {
         let folder = repository().join("crates/loadplan/src");
         let entries = fs::read_dir(&folder).unwrap_or_else(|fault| panic!("{}: {fault}", folder.display()));
         let sources = entries.map(|entry| entry.expect("it can be listed").path());
-        let text: String = sources.filter(|path| path.extension().is_some_and(|kind| kind == "rt")).map(|path| read(&path)).collect();
+        let text: String =
+            sources.filter(|path| path.extension().is_some_and(|kind| kind == "rt")).map(|path| read(&path)).collect();
         functions_behind(&without(&text, "//", "\n"), "pub extern \"C\" fn ")
     }
 
     /// The declarations of this crate.
     pub fn declarations() -> Functions {
         let text = read(&repository().join("host/loadplan/src/sys.rs"));
-        let block = text.split_once("extern \"C\" {").expect("there is a block").1.split_once("\n}").expect("it ends").0;
+        let block =
+            text.split_once("extern \"C\" {").expect("there is a block").1.split_once("\n}").expect("it ends").0;
         functions_behind(block, "fn ")
     }
 }
@@ -199,7 +206,8 @@ fn this_crate_declares_what_the_header_does() {
 /// The numbers of the header's answers, by their names.
 fn answers() -> Vec<(String, u32)> {
     let text = without(&read(&repository().join("include/loadplan.h")), "/*", "*/");
-    let body = text.split_once("enum loadplan_answer {").expect("there are answers").1.split_once('}').expect("they end").0;
+    let body =
+        text.split_once("enum loadplan_answer {").expect("there are answers").1.split_once('}').expect("they end").0;
     let numbered = listed(body).into_iter().map(|line| {
         let (name, value) = line.split_once(" = ").expect("an answer has a number");
         (name.to_string(), value.parse().expect("a number"))

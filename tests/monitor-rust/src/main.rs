@@ -96,7 +96,11 @@ fn refuses(table: &mut [u8], memory: &mut [u8]) -> Result<(), i32> {
         _ => return Err(2),
     }
     let untouched = memory.iter().chain(table.iter()).all(|&byte| byte == FILL);
-    if untouched { Ok(()) } else { Err(3) }
+    if untouched {
+        Ok(())
+    } else {
+        Err(3)
+    }
 }
 
 fn loads(table: &mut [u8], memory: &mut [u8]) -> Result<(), i32> {
@@ -110,7 +114,11 @@ fn loads(table: &mut [u8], memory: &mut [u8]) -> Result<(), i32> {
     }
     let elf = ElfBytes::<AnyEndian>::minimal_parse(SAMPLE).map_err(|_| 7)?;
     let segments = elf.segments().ok_or(8)?;
-    if elf.ehdr.e_entry == 0x40_00b0 && segments.len() == 2 { Ok(()) } else { Err(9) }
+    if elf.ehdr.e_entry == 0x40_00b0 && segments.len() == 2 {
+        Ok(())
+    } else {
+        Err(9)
+    }
 }
 
 fn monitor() -> i32 {
