@@ -25,15 +25,22 @@ struct Shown {
 }
 
 /// What readelf reads in another way: the start of the file's name, the part, and why.
-const READ_OTHERWISE: [(&str, &str, &str); 8] = [
-    ("compressed-dynamic", "dynamic entries", "readelf looks for none without program headers"),
-    ("dynamic-behind-null", "dynamic entries", "readelf looks for none without program headers"),
+const READ_OTHERWISE: [(&str, &str, &str); 11] = [
+    ("dynamic-compressed", "dynamic entries", "readelf looks for none without program headers"),
+    ("dynamic-after-null", "dynamic entries", "readelf looks for none without program headers"),
     ("dynamic-segment-one-section", "dynamic entries", "readelf takes the segment's although there are sections"),
+    ("dynamic-hidden", "dynamic entries", "readelf takes the segment's although there are sections"),
+    (
+        "segments-escape-no-sections",
+        "header",
+        "readelf takes the count literally, the reader looks for section header 0",
+    ),
+    ("names-index-ff00", "header", "readelf says that there is no such section"),
     ("ffff-segments-no-sections", "header", "readelf takes the count literally, the reader looks for section header 0"),
     ("table-of-no-sections", "header", "readelf says twice that there is none"),
-    ("names-in-section-0", "sections", "readelf shows a name that cannot be read as none"),
-    ("order-5-7", "sections", "readelf shows the entry size that it expects"),
-    ("order-11-7", "sections", "readelf shows the entry size that it expects"),
+    ("names-escape-link-0", "sections", "readelf shows a name that cannot be read as none"),
+    ("symbols-link-before-size", "sections", "readelf shows the entry size that it expects"),
+    ("symbols-cut-link", "sections", "readelf shows the entry size that it expects"),
 ];
 
 fn words(line: &str) -> Vec<&str> {
@@ -269,7 +276,7 @@ fn the_corpus_is_shown_as_readelf_shows_it() {
 
 #[test]
 fn a_refused_table_is_said_and_the_rest_is_shown() {
-    let output = loadplan(["show".as_ref(), made("order-5-7").as_os_str()]);
+    let output = loadplan(["show".as_ref(), made("symbols-link-before-size").as_os_str()]);
     assert_eq!(output.status.code(), Some(1));
     assert!(text(&output.stdout).contains("symbols: refused, 5: "));
     assert!(text(&output.stdout).contains("sections: 1"));
