@@ -33,7 +33,8 @@ const MANY_SECTIONS: usize = 4096;
 const HASH_SECTION: u32 = 5;
 
 /// Section names that are looked up in every file.
-const SECTION_NAMES: [&str; 9] = ["", ".text", ".symtab", ".dynsym", ".dynstr", ".hash", ".shstrtab", ".nosuch", "main"];
+const SECTION_NAMES: [&str; 9] =
+    ["", ".text", ".symtab", ".dynsym", ".dynstr", ".hash", ".shstrtab", ".nosuch", "main"];
 /// Symbol names that are looked up in every file, behind those of its own symbols.
 const SYMBOL_NAMES: [&[u8]; 6] = [b"", b"printf", b"exit", b"memcpy", b"no_such_symbol_zz", b"\xff\xfe"];
 
@@ -222,7 +223,8 @@ fn ascending(mut numbers: Vec<usize>) -> Vec<usize> {
 /// those behind the end, and those around the limits of 32 and of 64 bits.
 fn probes(count: usize, size: usize, full: bool) -> Vec<usize> {
     let most = usize::MAX;
-    let mut numbers = vec![0, 1, 2, count / 2, count.wrapping_sub(2), count.wrapping_sub(1), count, count + 1, count + 2];
+    let mut numbers =
+        vec![0, 1, 2, count / 2, count.wrapping_sub(2), count.wrapping_sub(1), count, count + 1, count + 2];
     numbers.extend([u32::MAX as usize, 1 << 32, most / size, most / size + 1, most - 1, most]);
     if full {
         numbers.extend(0..count);

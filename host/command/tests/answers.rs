@@ -35,12 +35,12 @@ fn every_recorded_file_is_in_the_corpus() {
 
 #[test]
 fn one_file_is_answered_without_a_heading_and_several_with_one() {
-    let (sample, other) = (made("sample"), made("order-5-7"));
+    let (sample, other) = (made("sample"), made("symbols-link-before-size"));
     let alone = loadplan(["ask".as_ref(), sample.as_os_str()]);
     assert_eq!(text(&alone.stdout), recorded("sample"));
     let both = loadplan(["ask".as_ref(), sample.as_os_str(), other.as_os_str()]);
     let headings = [format!("== {}\n", sample.display()), format!("== {}\n", other.display())];
-    let expected = [&headings[0], &recorded("sample"), &headings[1], &recorded("order-5-7")];
+    let expected = [&headings[0], &recorded("sample"), &headings[1], &recorded("symbols-link-before-size")];
     assert_eq!(text(&both.stdout), expected.map(String::as_str).concat());
 }
 

@@ -3,12 +3,12 @@
 mod common;
 
 use std::fs;
-use std::path::PathBuf;
+use std::path::{Path, PathBuf};
 use std::process::Output;
 
 use common::{loadplan, made, text, Folder};
 
-fn plan(path: &PathBuf, words: &[&str]) -> Output {
+fn plan(path: &Path, words: &[&str]) -> Output {
     let mut all = vec!["plan".as_ref(), path.as_os_str()];
     all.extend(words.iter().map(AsRef::<std::ffi::OsStr>::as_ref));
     loadplan(all)
@@ -56,14 +56,24 @@ fn gaps_and_long_runs_are_told_in_a_line() {
 fn refusals_name_the_numbers_at_fault() {
     let folder = Folder::new();
     let cases = [
-        (made("sample"), "0x400000+0x1000", "24", "segment 1: addresses 0x4010b8..0x4010d0 leave the window 0x400000..0x401000"),
+        (
+            made("sample"),
+            "0x400000+0x1000",
+            "24",
+            "segment 1: addresses 0x4010b8..0x4010d0 leave the window 0x400000..0x401000",
+        ),
         (made("sample"), "4194304+8191", "24", "not both multiples of 0x1000"),
         (sample_with(&folder, 0, 0), WINDOW, "20", "no ELF file"),
         (sample_with(&folder, 0x10, 1), WINDOW, "21", "its type is 1 REL"),
         (sample_with(&folder, 0x98, 0x19), WINDOW, "22", "segment 1: file size 0x19 is above memory size 0x18"),
         (sample_with(&folder, 0x81, 1), WINDOW, "22", "0x1b8..0x1c0 of the file, which ends at 0xc0"),
         (sample_with(&folder, 0x88, 0xb9), WINDOW, "23", "segment 1: address 0x4010b9 is 0xb9 modulo"),
-        (sample_with(&folder, 0x89, 0x00), WINDOW, "25", "0x400000..0x401000 of segment 0 and 0x400000..0x401000 of segment 1"),
+        (
+            sample_with(&folder, 0x89, 0x00),
+            WINDOW,
+            "25",
+            "0x400000..0x401000 of segment 0 and 0x400000..0x401000 of segment 1",
+        ),
         (sample_with(&folder, 0x7c, 7), WINDOW, "26", "segment 1: its flags are 0x7"),
         (sample_with(&folder, 0x18, 0xb8), WINDOW, "27", "the entry point is 0x4000b8"),
     ];
@@ -81,8 +91,11 @@ fn refusals_name_the_numbers_at_fault() {
 fn programs_get_json() {
     let output = plan(&made("sample"), &["--window", WINDOW, "--json"]);
     let shown = text(&output.stdout);
-    assert!(shown.contains(r#""window":{"start":"0x400000","length":8192},"accepted":true,"records":[{"pages":"0x400000","#));
-    assert!(shown.contains(r#"{"pages":"0x401000","pages_length":4096,"flags":6,"bytes":"0x4010b8","bytes_length":8,"offset":184}]}"#));
+    assert!(shown
+        .contains(r#""window":{"start":"0x400000","length":8192},"accepted":true,"records":[{"pages":"0x400000","#));
+    assert!(shown.contains(
+        r#"{"pages":"0x401000","pages_length":4096,"flags":6,"bytes":"0x4010b8","bytes_length":8,"offset":184}]}"#
+    ));
     let refused = text(&plan(&made("sample"), &["--json", "--window", "0x400000+0x1000"]).stdout);
     assert!(refused.contains(r#""accepted":false,"refusal":24,"reader":0,"meaning":""#));
 }

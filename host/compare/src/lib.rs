@@ -1,4 +1,14 @@
-//! Comparing the proved archive with the crate elf and with a plain rendering of the load plan's rules.
+//! Comparing the proved archive with the crate elf, and its load plan with a plain rendering of the plan's rules.
 
+pub mod compare;
+pub mod damage;
+pub mod hash_tables;
+pub mod listed;
 pub mod made;
 pub mod maker;
+pub mod oracle;
+pub mod plans;
+pub mod port;
+pub mod random;
+pub mod rendering;
+pub mod shrink;

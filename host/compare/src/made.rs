@@ -1,7 +1,10 @@
-//! The files of the corpus that no tool writes: the sample, counts that stand in section header 0, files with half of what
-//! files have, and the smallest file for each place where crate, words and format differ.
+//! The files of the corpus that no tool writes: the sample, counts that stand in section header 0, and files with half of
+//! what files have. The smallest files for differences come from docs/DIFFERENCES.md, which has them as text.
 
 use crate::maker::{Header, Kind, Parts, Section, Segment, KINDS};
+
+/// The kind of file that the sample is.
+const WIDE: Kind = Kind { wide: true, little: true };
 
 /// A file and its name.
 pub struct Made {
@@ -20,7 +23,6 @@ pub fn made() -> Vec<Made> {
         add("dynamic-segment-one-section", dynamic_segment_one_section(kind));
         add("table-of-no-sections", table_of_no_sections(kind));
     }
-    files.extend(differences());
     files
 }
 
@@ -31,7 +33,8 @@ fn named(name: &str, bytes: Vec<u8>) -> Made {
 /// A program of 192 bytes that ends at once: 184 bytes to read and execute at 400000, 8 to read and write at 4010b8 (hex),
 /// where they have 24 in memory.
 pub fn sample() -> Vec<u8> {
-    let code = Segment { kind: 1, flags: 5, offset: 0, address: 0x40_0000, in_file: 0xb8, in_memory: 0xb8, align: 4096 };
+    let code =
+        Segment { kind: 1, flags: 5, offset: 0, address: 0x40_0000, in_file: 0xb8, in_memory: 0xb8, align: 4096 };
     let data = Segment { kind: 1, flags: 6, offset: 0xb8, address: 0x40_10b8, in_file: 8, in_memory: 24, align: 4096 };
     let mut parts = Parts::new(WIDE);
     let segments_at = parts.add_segments(&[code, data]);
@@ -52,12 +55,30 @@ fn counts_in_section_0(kind: Kind) -> Vec<u8> {
     let load = Segment { kind: 1, flags: 5, offset: code_at, address: 0x1000, in_file: 16, in_memory: 16, align: 16 };
     let note = Segment { kind: 4, flags: 4, offset: code_at, align: 4, ..Segment::default() };
     let segments_at = parts.add_segments(&[load, note]);
-    let text = Section { name: 1, kind: 1, flags: 6, address: 0x1000, offset: code_at, size: 16, align: 4, ..Section::default() };
-    let names = Section { name: 7, kind: 3, offset: strings_at, size: strings.len() as u64, align: 1, ..Section::default() };
+    let text = Section {
+        name: 1,
+        kind: 1,
+        flags: 6,
+        address: 0x1000,
+        offset: code_at,
+        size: 16,
+        align: 4,
+        ..Section::default()
+    };
+    let names =
+        Section { name: 7, kind: 3, offset: strings_at, size: strings.len() as u64, align: 1, ..Section::default() };
     let odd = Section { name: 14, kind: 1, offset: code_at, size: 4, align: 1, ..Section::default() };
     let counts = Section { size: 4, link: 2, info: 2, ..Section::default() };
     let sections_at = parts.add_sections(&[counts, text, names, odd]);
-    parts.file(Header { kind: 2, entry: 0x1000, segments_at, sections_at, segments: 0xffff, sections: 0, names: 0xffff })
+    parts.file(Header {
+        kind: 2,
+        entry: 0x1000,
+        segments_at,
+        sections_at,
+        segments: 0xffff,
+        sections: 0,
+        names: 0xffff,
+    })
 }
 
 fn some_dynamic_entries(kind: Kind) -> Vec<u8> {
@@ -72,7 +93,15 @@ fn segments_only(kind: Kind) -> Vec<u8> {
     let dynamic_at = parts.add(8, &dynamic);
     let all = dynamic_at + size;
     let load = Segment { kind: 1, flags: 6, in_file: all, in_memory: all, align: 4096, ..Segment::default() };
-    let entries = Segment { kind: 2, flags: 6, offset: dynamic_at, address: dynamic_at, in_file: size, in_memory: size, align: 8 };
+    let entries = Segment {
+        kind: 2,
+        flags: 6,
+        offset: dynamic_at,
+        address: dynamic_at,
+        in_file: size,
+        in_memory: size,
+        align: 8,
+    };
     let segments_at = parts.add_segments(&[load, entries]);
     parts.file(Header { kind: 3, segments_at, segments: 2, ..Header::default() })
 }
@@ -91,7 +120,15 @@ fn dynamic_segment_one_section(kind: Kind) -> Vec<u8> {
     let size = dynamic.len() as u64;
     let mut parts = Parts::new(kind);
     let dynamic_at = parts.add(8, &dynamic);
-    let entries = Segment { kind: 2, flags: 6, offset: dynamic_at, address: dynamic_at, in_file: size, in_memory: size, align: 8 };
+    let entries = Segment {
+        kind: 2,
+        flags: 6,
+        offset: dynamic_at,
+        address: dynamic_at,
+        in_file: size,
+        in_memory: size,
+        align: 8,
+    };
     let segments_at = parts.add_segments(&[entries]);
     let sections_at = parts.add_sections(&[Section::default()]);
     parts.file(Header { kind: 3, segments_at, sections_at, segments: 1, sections: 1, ..Header::default() })
@@ -99,46 +136,7 @@ fn dynamic_segment_one_section(kind: Kind) -> Vec<u8> {
 
 /// A section table that says in its own first entry that it has no entries.
 fn table_of_no_sections(kind: Kind) -> Vec<u8> {
-    sections_only(kind, 1, 0, 0, &[], &[Section::default()])
-}
-
-/// A file with one part behind the header, and sections.
-fn sections_only(kind: Kind, file_kind: u16, count: u16, names: u16, part: &[u8], sections: &[Section]) -> Vec<u8> {
     let mut parts = Parts::new(kind);
-    parts.add(8, part);
-    let sections_at = parts.add_sections(sections);
-    parts.file(Header { kind: file_kind, sections_at, sections: count, names, ..Header::default() })
-}
-
-const WIDE: Kind = Kind { wide: true, little: true };
-/// Where the one part of [sections_only] starts in a file of the kind `WIDE`.
-const PART: u64 = 64;
-
-/// The smallest files of docs/DIFFERENCES.md, by the names that it has for them.
-fn differences() -> Vec<Made> {
-    let one = |part: &[u8], section| sections_only(WIDE, 3, 1, 0, part, &[section]);
-    let symbols = |offset, size, link, entry_size| Section { kind: 2, offset, size, link, entry_size, ..Section::default() };
-    let dynamic = |flags, size| Section { kind: 6, flags, offset: PART, size, align: 8, entry_size: 16, ..Section::default() };
-    let strings = |offset, size| Section { kind: 3, offset, size, ..Section::default() };
-    let table_of_two = |first, second| sections_only(WIDE, 1, 2, 0, &[], &[first, second]);
-    vec![
-        named("order-5-7", one(&[], symbols(0, 0, 9, 0))),
-        named("order-11-7", one(&[], symbols(0, 0, 1, 0))),
-        named("order-5-11", one(&[], symbols(1 << 40, 24, 9, 24))),
-        named("order-5-12", one(&[], symbols(u64::MAX, 24, 9, 24))),
-        named("names-in-section-0", sections_only(WIDE, 1, 1, 0xffff, &[], &[Section::default()])),
-        named("name-not-utf8", name_not_utf8()),
-        named("part-of-a-symbol", table_of_two(symbols(0, 10, 1, 24), strings(0, 16))),
-        named("data-of-section-0", sections_only(WIDE, 1, 0, 0, &[], &[Section { size: 2, ..Section::default() }, Section::default()])),
-        named("compressed-dynamic-16", one(&WIDE.dynamic(&[(0, 0)]), dynamic(0x800, 16))),
-        named("compressed-dynamic-40", one(&WIDE.dynamic(&[(1, 0), (14, 0), (10, 0)])[..40], dynamic(0x800, 40))),
-        named("dynamic-behind-null", one(&WIDE.dynamic(&[(0, 0), (1, 5)]), dynamic(0, 32))),
-        named("gnu-hash-cut-off", one(&[], Section { kind: 0x6fff_fff6, size: 4, ..Section::default() })),
-    ]
-}
-
-fn name_not_utf8() -> Vec<u8> {
-    let odd = Section { name: 1, kind: 1, ..Section::default() };
-    let names = Section { name: 3, kind: 3, offset: PART, size: 8, ..Section::default() };
-    sections_only(WIDE, 1, 2, 1, b"\0\xff\0.a\0\0\0", &[odd, names])
+    let sections_at = parts.add_sections(&[Section::default()]);
+    parts.file(Header { kind: 1, sections_at, ..Header::default() })
 }

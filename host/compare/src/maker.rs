@@ -78,28 +78,52 @@ impl Kind {
     }
 
     pub fn header_size(self) -> usize {
-        if self.wide { 64 } else { 52 }
+        if self.wide {
+            64
+        } else {
+            52
+        }
     }
 
     pub fn section_size(self) -> usize {
-        if self.wide { 64 } else { 40 }
+        if self.wide {
+            64
+        } else {
+            40
+        }
     }
 
     pub fn segment_size(self) -> usize {
-        if self.wide { 56 } else { 32 }
+        if self.wide {
+            56
+        } else {
+            32
+        }
     }
 
     pub fn symbol_size(self) -> usize {
-        if self.wide { 24 } else { 16 }
+        if self.wide {
+            24
+        } else {
+            16
+        }
     }
 
     pub fn dynamic_size(self) -> usize {
-        if self.wide { 16 } else { 8 }
+        if self.wide {
+            16
+        } else {
+            8
+        }
     }
 
     /// How wide addresses and offsets are.
     pub fn word(self) -> usize {
-        if self.wide { 8 } else { 4 }
+        if self.wide {
+            8
+        } else {
+            4
+        }
     }
 
     /// A machine that writes such files: x86-64, s390, i386, PowerPC.

@@ -48,7 +48,8 @@ pub fn loadplan<W: AsRef<OsStr>>(words: impl IntoIterator<Item = W>) -> Output {
 
 /// Runs another program, which must succeed; what it wrote.
 pub fn tool<W: AsRef<OsStr>>(name: &str, words: impl IntoIterator<Item = W>) -> String {
-    let output = Command::new(name).args(words).output().unwrap_or_else(|fault| panic!("{name} cannot be started: {fault}"));
+    let output =
+        Command::new(name).args(words).output().unwrap_or_else(|fault| panic!("{name} cannot be started: {fault}"));
     assert!(output.status.success(), "{name} failed: {}", String::from_utf8_lossy(&output.stderr));
     text(&output.stdout)
 }
