@@ -7,6 +7,7 @@ pub mod listed;
 pub mod made;
 pub mod maker;
 pub mod oracle;
+pub mod places;
 pub mod plans;
 pub mod port;
 pub mod random;

@@ -11,9 +11,9 @@ use loadplan_command::{read, Fault};
 use loadplan_compare::compare::{faults_of_the_list, Comparison, Findings};
 use loadplan_compare::damage::{damaged_at_random, Amount};
 use loadplan_compare::hash_tables::hash_tables;
-use loadplan_compare::listed::{listed, Listed};
 use loadplan_compare::made::{made, Made};
 use loadplan_compare::oracle::Oracle;
+use loadplan_compare::places;
 use loadplan_compare::plans;
 use loadplan_compare::port::Port;
 
@@ -73,19 +73,8 @@ fn number(arguments: &mut Arguments, name: &str, otherwise: u64) -> Result<u64, 
     }
 }
 
-fn repository() -> PathBuf {
-    let here = Path::new(env!("CARGO_MANIFEST_DIR"));
-    here.ancestors().nth(2).unwrap_or(here).to_path_buf()
-}
-
-fn differences() -> Result<Vec<Listed>, Fault> {
-    let page = read(&repository().join("docs/DIFFERENCES.md"))?;
-    Ok(listed(&String::from_utf8_lossy(&page)))
-}
-
 fn make(folder: &Path) -> Result<bool, Fault> {
-    let of_the_list = differences()?.into_iter().map(|entry| Made { name: entry.name, bytes: entry.file });
-    for file in made().into_iter().chain(of_the_list) {
+    for file in made().into_iter().chain(places::files_of_the_list()?) {
         fs::write(folder.join(&file.name), &file.bytes)?;
     }
     Ok(true)
@@ -130,7 +119,7 @@ fn compare(mut arguments: Arguments) -> Result<bool, Fault> {
     if of_the_machine {
         comparison.inputs("files of the machine", &|each| machine_files(each)).map_err(cannot_compare)?;
     }
-    let faults = faults_of_the_list(&differences()?, &oracle, &port).map_err(cannot_compare)?;
+    let faults = faults_of_the_list(&places::differences()?, &oracle, &port).map_err(cannot_compare)?;
     faults.iter().for_each(|fault| println!("listed, but not so: {fault}"));
     let same = report(&comparison, since)?;
     Ok(same && faults.is_empty())
@@ -144,35 +133,17 @@ fn oracle(arguments: &mut Arguments) -> Result<Oracle, Fault> {
     if let Some(program) = arguments.value("--oracle")? {
         return Ok(Oracle::new(PathBuf::from(program)));
     }
-    let beside = repository().parent().map(|folder| folder.join("shared"));
-    let shared = arguments.value("--shared")?.map(PathBuf::from).or(beside).unwrap_or_default();
-    let script = shared.join("oracle/make");
-    if !script.is_file() {
-        return Err(Fault::new(format_args!(
-            "{} is not there: name the crate's folder with --shared",
-            script.display()
-        )));
-    }
-    let folder = repository().join("host/target/oracle");
-    Oracle::build(&script, &folder).map_err(|fault| Fault::new(format_args!("the crate cannot be asked: {fault}")))
+    let shared = arguments.value("--shared")?.map_or_else(places::shared, PathBuf::from);
+    places::oracle(&shared).map_err(|fault| Fault::new(format_args!("the crate cannot be asked: {fault}")))
 }
 
 /// The named files, or the corpus.
 fn files(named: Vec<PathBuf>) -> Result<Vec<Made>, Fault> {
-    let paths = if named.is_empty() { corpus()? } else { named };
-    let mut files = Vec::new();
-    for path in &paths {
-        let name = path.file_name().unwrap_or_default().to_string_lossy().into_owned();
-        files.push(Made { name, bytes: read(path)? });
+    if named.is_empty() {
+        return Ok(places::corpus()?);
     }
-    Ok(files)
-}
-
-fn corpus() -> Result<Vec<PathBuf>, Fault> {
-    let entries = fs::read_dir(repository().join("tests/corpus/made"))?;
-    let mut paths = entries.map(|entry| Ok(entry?.path())).collect::<io::Result<Vec<_>>>()?;
-    paths.sort();
-    Ok(paths)
+    let read_one = |path: &PathBuf| Ok(Made { name: places::name_of(path), bytes: read(path)? });
+    named.iter().map(read_one).collect()
 }
 
 /// Every readable file of the machine's programs and libraries that starts as ELF files do.
@@ -197,6 +168,23 @@ fn machine_files(each: &mut dyn FnMut(&[u8])) {
     }
 }
 
+/// Bytes as lines of hexadecimal digits; lines of zeros are only counted.
+fn print_bytes(bytes: &[u8]) {
+    let mut zeros = 0;
+    for line in bytes.chunks(32) {
+        if line.iter().all(|&byte| byte == 0) {
+            zeros += 1;
+            continue;
+        }
+        if zeros > 0 {
+            println!("    ({zeros} lines of zeros)");
+        }
+        zeros = 0;
+        println!("    {}", line.iter().map(|byte| format!("{byte:02x}")).collect::<Vec<_>>().join(" "));
+    }
+    println!("    ({} bytes)", bytes.len());
+}
+
 /// Says what was found; whether there was no difference and nothing slow.
 fn report(comparison: &Comparison<'_>, since: Instant) -> Result<bool, Fault> {
     let Findings { inputs, answers, differences, slow } = &comparison.findings;
@@ -207,9 +195,7 @@ fn report(comparison: &Comparison<'_>, since: Instant) -> Result<bool, Fault> {
     );
     for (difference, input) in comparison.shrunk().map_err(cannot_compare)? {
         println!("  crate: {}\n  port:  {}", difference.of_the_crate, difference.of_the_port);
-        for line in input.chunks(32) {
-            println!("    {}", line.iter().map(|byte| format!("{byte:02x}")).collect::<Vec<_>>().join(" "));
-        }
+        print_bytes(&input);
     }
     for (input, took) in slow {
         println!("  slow: {input} takes {} ms", took.as_millis());

@@ -145,6 +145,15 @@ impl Kind {
         bytes
     }
 
+    /// The number that bytes hold in the file's order.
+    pub fn value(self, bytes: &[u8]) -> u64 {
+        let add = |sum: u64, &byte: &u8| sum << 8 | u64::from(byte);
+        match self.little {
+            true => bytes.iter().rev().fold(0, add),
+            false => bytes.iter().fold(0, add),
+        }
+    }
+
     /// Numbers one behind the other, each behind its width.
     pub fn numbers(self, fields: &[(usize, u64)]) -> Vec<u8> {
         fields.iter().flat_map(|&(width, value)| self.number(width, value)).collect()

@@ -115,22 +115,29 @@ fn record(segment: &Segment, place: &Place) -> Record {
     [place.pages_from as u64, length as u64, flags, place.from as u64, segment.in_file, segment.offset]
 }
 
-/// What memory holds after loading: for each byte, the file's byte where one belongs, zero elsewhere in a segment's pages,
-/// else what was there.
+/// What memory holds after loading: the file's byte where one belongs, zero elsewhere in a segment's pages, else what was
+/// there. Memory is whole pages.
 pub fn memory(records: &[Record], file: &[u8], start: u64, old: &[u8]) -> Vec<u8> {
     let mut memory = old.to_vec();
-    for (offset, byte) in memory.iter_mut().enumerate() {
-        let address = u128::from(start) + offset as u128;
-        for &[pages, pages_length, _, bytes, bytes_length, from] in records {
-            let within = |start: u64, length: u64| {
-                (u128::from(start)..u128::from(start) + u128::from(length)).contains(&address)
-            };
-            if within(bytes, bytes_length) {
-                *byte = file[(address - u128::from(bytes)) as usize + from as usize];
-            } else if within(pages, pages_length) {
-                *byte = 0;
-            }
+    for (number, page) in memory.chunks_mut(PAGE as usize).enumerate() {
+        let page_start = u128::from(start) + number as u128 * PAGE;
+        for record in records.iter().filter(|[pages, length, ..]| within(page_start, *pages, *length)) {
+            let addresses = page_start..;
+            page.iter_mut().zip(addresses).for_each(|(byte, address)| *byte = byte_at(address, record, file));
         }
     }
     memory
+}
+
+fn within(address: u128, start: u64, length: u64) -> bool {
+    (u128::from(start)..u128::from(start) + u128::from(length)).contains(&address)
+}
+
+/// The byte at an address in the pages of a record.
+fn byte_at(address: u128, record: &Record, file: &[u8]) -> u8 {
+    let [_, _, _, bytes, length, from] = *record;
+    match within(address, bytes, length) {
+        true => file[from as usize + (address - u128::from(bytes)) as usize],
+        false => 0,
+    }
 }
