@@ -157,7 +157,13 @@ impl std::fmt::Display for Hex<'_> {
         if self.0.is_empty() {
             return to.write_str("-");
         }
-        self.0.iter().try_for_each(|byte| write!(to, "{byte:02x}"))
+        // Names may be long: pieces of them are written at once.
+        for piece in self.0.chunks(32) {
+            let digit = |value: u8| char::from(b"0123456789abcdef"[usize::from(value)]);
+            let digits: String = piece.iter().flat_map(|byte| [digit(byte / 16), digit(byte % 16)]).collect();
+            to.write_str(&digits)?;
+        }
+        Ok(())
     }
 }
 

@@ -90,7 +90,7 @@ impl Comparison<'_> {
         let mut shown = Vec::new();
         for (kind, input) in self.findings.differences.iter().take(MOST_KINDS) {
             let small = smallest(input, kind, self.oracle, self.port)?;
-            let text = self.oracle.texts(&[small.clone()], false)?.remove(0);
+            let text = self.oracle.texts(std::slice::from_ref(&small), false)?.remove(0);
             if let Some(difference) = Difference::between(&text, &self.port.text(&small)) {
                 shown.push((difference, small));
             }
