@@ -138,7 +138,8 @@ mod rust {
     fn function(declaration: &str) -> (String, Function) {
         let (name, rest) = declaration.split_once('(').expect("a function has parameters");
         let (parameters, rest) = rest.split_once(')').expect("they end");
-        let answer = rest.trim_start().trim_start_matches("->").split(['{', ';']).next().expect("an answer").trim();
+        let answer = rest.trim_start().trim_start_matches("->").trim_start();
+        let answer = answer.split([' ', '{', ';']).next().expect("an answer");
         let parameters = listed(parameters).iter().map(|words| parameter(words)).collect();
         (name.to_string(), Function { parameters: join_slices(parameters), answer: answer.to_string() })
     }
