@@ -4,3 +4,4 @@ pub mod Clash
 pub mod Table
 pub mod Accept
 pub mod Narrow
+pub mod Reason

@@ -493,35 +493,47 @@ fn told(a: Answer) -> Planned
 }
 
 #[no_mangle]
-pub extern "C" fn loadplan_plan(file: &[u8], start: u64, len: u64, table: &mut [u8]) -> Planned
-    ensures { λ r. ⌜ PlanTold (now (file .entry)) (windowOf start len) (now (table .entry)) (now (table .exit)) r ⌝ }
+pub extern "C" fn loadplan_plan(
+    file: &[u8],
+    window_start: u64,
+    window_length: u64,
+    table: &mut [u8],
+) -> Planned
+    ensures { λ r. ⌜ PlanTold (now (file .entry)) (windowOf «window_start» «window_length») (now (table .entry)) (now (table .exit)) r ⌝ }
 {
-    told(load_plan::plan(file, start, len, table))
+    told(load_plan::plan(file, window_start, window_length, table))
 }
 
 #[no_mangle]
 pub extern "C" fn loadplan_carry_out(
     file: &[u8],
-    start: u64,
-    len: u64,
+    window_start: u64,
+    window_length: u64,
     table: &[u8],
     records: u64,
     memory: &mut [u8],
 ) -> u32
-    ensures { λ r. ⌜ CarriedOut (now (file .entry)) (windowOf start len) (now (table .entry)) records (now (memory .entry)) (now (memory .exit)) r ⌝ }
+    ensures { λ r. ⌜ CarriedOut (now (file .entry)) (windowOf «window_start» «window_length») (now (table .entry)) records (now (memory .entry)) (now (memory .exit)) r ⌝ }
 {
-    load_image::carry_out(file, start, len, table, records as usize, memory) as u32
+    load_image::carry_out(
+        file,
+        window_start,
+        window_length,
+        table,
+        records as usize,
+        memory,
+    ) as u32
 }
 
 #[no_mangle]
 pub extern "C" fn loadplan_load(
     file: &[u8],
-    start: u64,
-    len: u64,
+    window_start: u64,
+    window_length: u64,
     table: &mut [u8],
     memory: &mut [u8],
 ) -> Planned
-    ensures { λ r. ⌜ LoadTold (now (file .entry)) (windowOf start len) (now (table .entry)) (now (table .exit)) (now (memory .entry)) (now (memory .exit)) r ⌝ }
+    ensures { λ r. ⌜ LoadTold (now (file .entry)) (windowOf «window_start» «window_length») (now (table .entry)) (now (table .exit)) (now (memory .entry)) (now (memory .exit)) r ⌝ }
 {
-    told(load_image::load(file, start, len, table, memory))
+    told(load_image::load(file, window_start, window_length, table, memory))
 }

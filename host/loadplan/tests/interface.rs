@@ -58,14 +58,11 @@ fn number(name: &str) -> String {
     known.iter().find(|(c, _)| *c == name).map_or(name, |(_, ours)| ours).to_string()
 }
 
-/// A parameter's name in all three languages: `class` is a word of C++, `type` one of Rattle; and where there is but one
-/// window, the proved code calls its numbers `start` and `len`.
+/// A parameter's name in all three languages: `class` is a word of C++, `type` one of Rattle.
 fn parameter_name(name: &str) -> String {
     match name {
         "class_" => "class".to_string(),
         "type" => "kind".to_string(),
-        "start" => "window_start".to_string(),
-        "len" => "window_length".to_string(),
         _ => name.to_string(),
     }
 }
@@ -141,9 +138,8 @@ mod rust {
     fn function(declaration: &str) -> (String, Function) {
         let (name, rest) = declaration.split_once('(').expect("a function has parameters");
         let (parameters, rest) = rest.split_once(')').expect("they end");
-        // Behind the answer stands a body, an end, or a contract.
-        let answer = rest.trim_start().trim_start_matches("->").split_whitespace().next().expect("an answer");
-        let answer = answer.trim_end_matches(';');
+        let answer = rest.trim_start().trim_start_matches("->").trim_start();
+        let answer = answer.split([' ', '{', ';']).next().expect("an answer");
         let parameters = listed(parameters).iter().map(|words| parameter(words)).collect();
         (name.to_string(), Function { parameters: join_slices(parameters), answer: answer.to_string() })
     }
