@@ -11,5 +11,7 @@ pub mod places;
 pub mod plans;
 pub mod port;
 pub mod random;
+pub mod reading;
+pub mod recorded;
 pub mod rendering;
 pub mod shrink;

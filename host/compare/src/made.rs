@@ -140,3 +140,42 @@ fn table_of_no_sections(kind: Kind) -> Vec<u8> {
     let sections_at = parts.add_sections(&[Section::default()]);
     parts.file(Header { kind: 1, sections_at, ..Header::default() })
 }
+
+/// How many headers do not fit the counts of a file header.
+const MANY: u32 = 70_000;
+
+/// Files with so many segments, and with so many sections. They are long, so they are made when they are needed.
+pub fn long_files() -> Vec<Made> {
+    let of_a_kind = |kind: Kind| {
+        let name = |what: &str| format!("{MANY}-{what}-{}", kind.name());
+        [named(&name("segments"), many_segments(kind)), named(&name("sections"), many_sections(kind))]
+    };
+    KINDS.into_iter().flat_map(of_a_kind).collect()
+}
+
+fn many_segments(kind: Kind) -> Vec<u8> {
+    let segment = |number: u32| Segment {
+        kind: 1,
+        flags: 4,
+        address: u64::from(number) * 4096,
+        in_memory: 4096,
+        ..Segment::default()
+    };
+    let mut parts = Parts::new(kind);
+    let segments_at = parts.add_segments(&(0..MANY).map(segment).collect::<Vec<_>>());
+    let sections_at = parts.add_sections(&[Section { info: MANY, ..Section::default() }]);
+    parts.file(Header { kind: 4, segments_at, sections_at, segments: 0xffff, sections: 1, ..Header::default() })
+}
+
+/// The last section holds the names, of which there are two.
+fn many_sections(kind: Kind) -> Vec<u8> {
+    let strings = b"\0.many\0.names\0";
+    let mut parts = Parts::new(kind);
+    let strings_at = parts.add(1, strings);
+    let mut sections = vec![Section { name: 1, kind: 1, ..Section::default() }; MANY as usize];
+    sections[0] = Section { size: MANY.into(), link: MANY - 1, ..Section::default() };
+    let names = Section { name: 7, kind: 3, offset: strings_at, size: strings.len() as u64, ..Section::default() };
+    sections[MANY as usize - 1] = names;
+    let sections_at = parts.add_sections(&sections);
+    parts.file(Header { kind: 1, sections_at, names: 0xffff, ..Header::default() })
+}

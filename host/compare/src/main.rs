@@ -11,16 +11,18 @@ use loadplan_command::{read, Fault};
 use loadplan_compare::compare::{faults_of_the_list, Comparison, Findings};
 use loadplan_compare::damage::{damaged_at_random, Amount};
 use loadplan_compare::hash_tables::hash_tables;
-use loadplan_compare::made::{made, Made};
+use loadplan_compare::made::{long_files, made, Made};
 use loadplan_compare::oracle::Oracle;
 use loadplan_compare::places;
 use loadplan_compare::plans;
 use loadplan_compare::port::Port;
+use loadplan_compare::recorded;
 
 const HELP: &str = "\
 usage: loadplan-compare [--shared FOLDER | --oracle PROGRAM] [--front BYTES] [--random COUNT] [--seed NUMBER]
                         [--machine] [FILE..]
-       loadplan-compare plans [--files COUNT] [--seed NUMBER]
+       loadplan-compare plans [--files COUNT] [--front BYTES] [--random COUNT] [--seed NUMBER]
+       loadplan-compare record [--shared FOLDER | --oracle PROGRAM]
        loadplan-compare make FOLDER
 
 Asks the crate elf and the port about the files (the corpus and hash tables, if none is named) and damaged copies of them:
@@ -33,7 +35,9 @@ Prints how many inputs and answers were compared, and each difference once with 
   --random COUNT     how many copies of each file are damaged at random (1000)
   --machine          the programs and libraries of this machine too, undamaged
   --wrong QUESTION   the port answers this question wrongly: to see that it is caught
-plans compares random files (200000) with the rules of the plan, byte by byte. make writes the files that no tool writes.
+plans compares random files (200000), and damaged copies of the corpus, with the rules of the plan, byte by byte. record
+writes a line for each file of the corpus, with a digest of the crate's answers about damaged copies of it. make writes the
+files of the corpus that no tool writes.
 
 Exit status: 0 no difference that is not listed; 1 a difference, or a listed one that no longer occurs, or an input that takes
 too long; 2 wrong use, or no crate to ask.
@@ -63,6 +67,9 @@ fn run(mut arguments: Arguments) -> Result<bool, Fault> {
     if arguments.flag("make") {
         return make(&arguments.one_file()?);
     }
+    if arguments.flag("record") {
+        return record(oracle(&mut arguments)?);
+    }
     compare(arguments)
 }
 
@@ -80,20 +87,32 @@ fn make(folder: &Path) -> Result<bool, Fault> {
     Ok(true)
 }
 
+fn record(oracle: Oracle) -> Result<bool, Fault> {
+    for file in places::corpus()? {
+        println!("{}", recorded::of_the_crate(&file, &oracle).map_err(cannot_compare)?);
+    }
+    Ok(true)
+}
+
 fn compare_plans(mut arguments: Arguments) -> Result<bool, Fault> {
     let files = number(&mut arguments, "--files", 200_000)?;
     let seed = number(&mut arguments, "--seed", 1)?;
-    match plans::compare(files, seed) {
-        Ok(tally) => {
-            println!("plans: {files} files compared with the rules, no difference");
-            tally.iter().for_each(|(refusal, count)| println!("  refusal {refusal:>2}: {count}"));
-            Ok(true)
+    let front = number(&mut arguments, "--front", 4096)? as usize;
+    let random = number(&mut arguments, "--random", 1000)?;
+    let compared = plans::compare(files, seed).and_then(|mut tally| {
+        let mut of_damaged = plans::Tally::new();
+        for file in places::corpus().map_err(|fault| fault.to_string())? {
+            plans::compare_damaged(&file.name, &file.bytes, Amount { front, random, seed }, &mut of_damaged)?;
         }
-        Err(fault) => {
-            println!("plans: {fault}");
-            Ok(false)
-        }
+        println!("plans: {files} random files and {} damaged ones, no difference", of_damaged.values().sum::<u64>());
+        of_damaged.iter().for_each(|(refusal, count)| *tally.entry(*refusal).or_default() += count);
+        tally.iter().for_each(|(refusal, count)| println!("  refusal {refusal:>2}: {count}"));
+        Ok(())
+    });
+    if let Err(fault) = &compared {
+        println!("plans: {fault}");
     }
+    Ok(compared.is_ok())
 }
 
 fn compare(mut arguments: Arguments) -> Result<bool, Fault> {
@@ -104,7 +123,8 @@ fn compare(mut arguments: Arguments) -> Result<bool, Fault> {
     let of_the_machine = arguments.flag("--machine");
     let port = Port { wrong: arguments.value("--wrong")? };
     let named = arguments.files()?;
-    let hash_tables = if named.is_empty() { hash_tables(seed) } else { Vec::new() };
+    let (hash_tables, long_files) =
+        if named.is_empty() { (hash_tables(seed), long_files()) } else { (Vec::new(), Vec::new()) };
     let since = Instant::now();
     let mut comparison = Comparison { oracle: &oracle, port: &port, findings: Findings::default() };
     for file in files(named)? {
@@ -115,6 +135,9 @@ fn compare(mut arguments: Arguments) -> Result<bool, Fault> {
         .inputs("hash tables", &|each| {
             hash_tables.iter().for_each(|file| damaged_at_random(&file.name, &file.bytes, of_a_hash_table, each));
         })
+        .map_err(cannot_compare)?;
+    comparison
+        .inputs("long files", &|each| long_files.iter().for_each(|file| each(&file.bytes)))
         .map_err(cannot_compare)?;
     if of_the_machine {
         comparison.inputs("files of the machine", &|each| machine_files(each)).map_err(cannot_compare)?;

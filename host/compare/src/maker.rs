@@ -45,7 +45,7 @@ pub struct Section {
 }
 
 /// A program header; the physical address is the address.
-#[derive(Clone, Copy, Debug, Default)]
+#[derive(Clone, Copy, Debug, Default, PartialEq, Eq)]
 pub struct Segment {
     pub kind: u32,
     pub flags: u32,

@@ -1,14 +1,17 @@
-//! Random files made for the load plan: planned and loaded by the archive, and beside it by the plain rendering.
+//! Files planned and loaded by the archive, and beside it by the plain rendering: random ones that are made for it, and the
+//! damaged copies of others.
 //!
-//! Most files are nearly right, so that each rule decides often: a few segments in order in a window, then one or two things
-//! changed. Windows are at their limits as often as not.
+//! Most random files are nearly right, so that each rule decides often: a few segments in order in a window, then one or two
+//! things changed. Windows are at their limits as often as not.
 
 use std::collections::BTreeMap;
 
-use loadplan::plan::{carry_out, load, plan, Window, RECORD_SIZE};
+use loadplan::plan::{carry_out, load, plan, Refusal, Window, RECORD_SIZE};
 
+use crate::damage::{damaged, Amount};
 use crate::maker::{Header, Kind, Parts, Segment, KINDS};
 use crate::random::Random;
+use crate::reading;
 use crate::rendering::{self, Numbers, Record};
 
 const PAGE: u64 = 4096;
@@ -20,13 +23,20 @@ const MOST_MEMORY: u64 = 16 * PAGE;
 /// How often each refusal was the answer; 0 is acceptance.
 pub type Tally = BTreeMap<u32, u64>;
 
-/// A file, the numbers that it was made of, a window and the room of a table.
+/// A file, a window and the room of a table.
 #[derive(Debug)]
-pub struct Case {
-    pub file: Vec<u8>,
-    pub numbers: Numbers,
-    pub window: Window,
-    pub room: usize,
+struct Case<'file> {
+    file: &'file [u8],
+    window: Window,
+    room: usize,
+}
+
+/// What a random file is made of.
+#[derive(Debug)]
+struct Made {
+    numbers: Numbers,
+    window: Window,
+    room: usize,
 }
 
 /// Compares so many random files; how often each refusal was the answer, or the first case that differs.
@@ -34,31 +44,70 @@ pub fn compare(files: u64, seed: u64) -> Result<Tally, String> {
     let mut random = Random::new(seed);
     let mut tally = Tally::new();
     for number in 0..files {
-        let case = case(&mut random);
-        let refusal =
-            compare_one(&case).map_err(|fault| format!("file {number} of seed {seed}: {fault}\n{case:x?}"))?;
-        *tally.entry(refusal).or_default() += 1;
+        let (made, file) = random_file(&mut random);
+        let told = |fault| format!("file {number} of seed {seed}: {fault}\n{made:x?}");
+        if reading::read(&file).as_ref() != Ok(&made.numbers) {
+            return Err(told("the plain reading reads something else than was written".to_string()));
+        }
+        let length = if random.once_in(30) { random.below(file.len() as u64) as usize } else { file.len() };
+        let case = Case { file: &file[..length], window: made.window, room: made.room };
+        *tally.entry(compare_one(&case).map_err(told)?).or_default() += 1;
     }
     Ok(tally)
 }
 
-/// A random case: nearly right, then changed.
-fn case(random: &mut Random) -> Case {
+/// Compares the damaged copies of a file, each in one of the windows around the one that it needs.
+pub fn compare_damaged(name: &str, file: &[u8], amount: Amount, tally: &mut Tally) -> Result<(), String> {
+    let mut random = Random::of_name(name, amount.seed);
+    let windows = windows_around(file);
+    let mut fault = Ok(());
+    damaged(name, file, amount, &mut |copy| {
+        let case = Case { file: copy, window: random.one_of(&windows), room: 8 * RECORD_SIZE };
+        if fault.is_ok() {
+            let compared = compare_one(&case).map_err(|fault| format!("{name}: {fault}\n{case:x?}"));
+            fault = compared.map(|refusal| *tally.entry(refusal).or_default() += 1);
+        }
+    });
+    fault
+}
+
+/// The window that a file's segments need, and windows that are a little too small, too large or elsewhere.
+fn windows_around(file: &[u8]) -> Vec<Window> {
+    let numbers = reading::read(file).ok();
+    let segments = numbers.iter().flat_map(|numbers| &numbers.segments).filter(|segment| segment.kind == 1);
+    let ends = segments.map(|segment| (segment.address, segment.address.saturating_add(segment.in_memory)));
+    let (low, high) = ends.fold((u64::MAX, 0), |(low, high), (from, to)| (low.min(from), high.max(to)));
+    let independent = numbers.as_ref().is_some_and(|numbers| numbers.kind == 3);
+    let low = if independent { 0 } else { low.min(high) / PAGE * PAGE };
+    let length = high.div_ceil(PAGE).saturating_mul(PAGE).saturating_sub(low);
+    let start = if independent { 0x7fff_0000 } else { low };
+    let last = 0u64.wrapping_sub(length);
+    vec![
+        Window { start, length },
+        Window { start, length: length.saturating_sub(PAGE) },
+        Window { start, length: length.saturating_add(PAGE) },
+        Window { start: start.saturating_add(PAGE), length },
+        Window {
+            start: if independent { last } else { start.saturating_sub(PAGE) },
+            length: length.saturating_add(PAGE),
+        },
+        Window { start: if independent { last } else { start }, length },
+    ]
+}
+
+/// A random file: nearly right, then changed.
+fn random_file(random: &mut Random) -> (Made, Vec<u8>) {
     let kind = random.one_of(&KINDS);
-    let mut case = right(kind, random);
+    let mut made = right(kind, random);
     for _ in 0..random.one_of(&[0, 0, 1, 1, 1, 2]) {
-        change(&mut case, kind, random);
+        change(&mut made, kind, random);
     }
     if !kind.wide {
-        keep_half(&mut case.numbers);
+        keep_half(&mut made.numbers);
     }
-    case.file = made(kind, &case.numbers, random);
-    case.numbers.length = case.file.len() as u64;
-    if random.once_in(30) {
-        let cut = random.below(case.file.len() as u64) as usize;
-        case.file.truncate(cut);
-    }
-    case
+    let file = written(kind, &made.numbers, random);
+    made.numbers.length = file.len() as u64;
+    (made, file)
 }
 
 /// A 32-bit file holds the low halves of numbers.
@@ -76,7 +125,7 @@ const BYTES_AT: u64 = 512;
 const BYTES: u64 = 3 * PAGE;
 
 /// Up to four segments in order, with gaps and shared pages only by their ends, in a window that holds them.
-fn right(kind: Kind, random: &mut Random) -> Case {
+fn right(kind: Kind, random: &mut Random) -> Made {
     let file_kind = random.one_of(&[2, 3]);
     let start = random.one_of(&[0, PAGE, 0x40_0000, if kind.wide { 0x7fff_0000_0000 } else { 0x7fff_0000 }]);
     let base = if file_kind == 3 { 0 } else { start };
@@ -95,7 +144,7 @@ fn right(kind: Kind, random: &mut Random) -> Case {
     let entry = segments[0].address + random.below(segments[0].in_memory);
     let room = segments.len() * RECORD_SIZE + random.below(50) as usize;
     let numbers = Numbers { kind: file_kind, entry, segments, length: 0 };
-    Case { file: Vec::new(), numbers, window: Window { start, length: at - base }, room }
+    Made { numbers, window: Window { start, length: at - base }, room }
 }
 
 /// Numbers that break things.
@@ -108,21 +157,21 @@ fn limit(kind: Kind, random: &mut Random) -> u64 {
     }
 }
 
-fn change(case: &mut Case, kind: Kind, random: &mut Random) {
+fn change(made: &mut Made, kind: Kind, random: &mut Random) {
     let limit = limit(kind, random);
     match random.below(6) {
-        0 => change_window(case, random),
-        1 => case.numbers.entry = random.one_of(&[limit, case.numbers.entry ^ PAGE]),
-        2 => case.room = random.below(4 * RECORD_SIZE as u64) as usize,
-        3 => case.numbers.kind = random.one_of(&[0, 1, 4, 0xffff]),
-        4 if random.once_in(4) => case.numbers.segments.clear(),
-        _ => change_segment(&mut case.numbers.segments, limit, random),
+        0 => change_window(made, random),
+        1 => made.numbers.entry = random.one_of(&[limit, made.numbers.entry ^ PAGE]),
+        2 => made.room = random.below(4 * RECORD_SIZE as u64) as usize,
+        3 => made.numbers.kind = random.one_of(&[0, 1, 4, 0xffff]),
+        4 if random.once_in(4) => made.numbers.segments.clear(),
+        _ => change_segment(&mut made.numbers.segments, limit, random),
     }
 }
 
-fn change_window(case: &mut Case, random: &mut Random) {
-    let Window { start, length } = case.window;
-    case.window = match random.below(7) {
+fn change_window(made: &mut Made, random: &mut Random) {
+    let Window { start, length } = made.window;
+    made.window = match random.below(7) {
         0 => Window { start: start.wrapping_sub(PAGE), length },
         1 => Window { start: start.wrapping_add(PAGE), length },
         2 => Window { start, length: length.saturating_sub(PAGE) },
@@ -155,7 +204,7 @@ fn change_segment(segments: &mut Vec<Segment>, limit: u64, random: &mut Random) 
 }
 
 /// The file with these headers, and random bytes for its segments.
-fn made(kind: Kind, numbers: &Numbers, random: &mut Random) -> Vec<u8> {
+fn written(kind: Kind, numbers: &Numbers, random: &mut Random) -> Vec<u8> {
     let mut parts = Parts::new(kind);
     let count = numbers.segments.len();
     let segments_at = parts.add_segments(&numbers.segments);
@@ -173,23 +222,29 @@ fn made(kind: Kind, numbers: &Numbers, random: &mut Random) -> Vec<u8> {
     })
 }
 
-/// What the rules say of a case. Of a file that was cut, only that it is refused is known without reading it.
-fn expected(case: &Case) -> Option<Result<Vec<Record>, u32>> {
-    let whole = case.numbers.length == case.file.len() as u64;
-    whole.then(|| rendering::plan(&case.numbers, case.window.start, case.window.length, case.room))
+/// What the rules say: the records, or the refusal and with 20 the reader's number.
+fn expected(case: &Case<'_>) -> Result<Vec<Record>, (u32, u32)> {
+    let numbers = reading::read(case.file).map_err(|fault| (20, fault))?;
+    let Window { start, length } = case.window;
+    rendering::plan(&numbers, start, length, case.room).map_err(|refusal| (refusal, 0))
+}
+
+/// A refusal as two numbers.
+fn as_pair(refusal: Refusal) -> (u32, u32) {
+    match refusal {
+        Refusal::NotOpened(Some(fault)) => (20, fault.number().into()),
+        other => (other.number(), 0),
+    }
 }
 
 /// Compares one case: plan, load and carrying out. Answers the refusal, 0 for none.
-pub fn compare_one(case: &Case) -> Result<u32, String> {
+fn compare_one(case: &Case<'_>) -> Result<u32, String> {
     let mut table = vec![FILL; case.room];
-    let planned =
-        plan(&case.file, case.window, &mut table).map(|plan| plan.records().map(as_numbers).collect::<Vec<_>>());
-    let refusal = planned.as_ref().err().map_or(0, |refusal| refusal.number());
-    let ours = planned.map_err(|refusal| refusal.number());
-    match expected(case) {
-        Some(theirs) if theirs != ours => return Err(format!("planned {ours:x?}, by the rules {theirs:x?}")),
-        None if case.file.len() < BYTES_AT as usize && refusal == 0 => return Err("a cut file was planned".to_string()),
-        _ => {}
+    let planned = plan(case.file, case.window, &mut table);
+    let ours = planned.map(|plan| plan.records().map(as_numbers).collect::<Vec<_>>()).map_err(as_pair);
+    let theirs = expected(case);
+    if ours != theirs {
+        return Err(format!("planned {ours:x?}, by the rules {theirs:x?}"));
     }
     let used = ours.as_ref().map_or(0, |records| records.len() * RECORD_SIZE);
     if table[used..].iter().any(|&byte| byte != FILL) {
@@ -198,7 +253,7 @@ pub fn compare_one(case: &Case) -> Result<u32, String> {
     if case.window.length <= MOST_MEMORY {
         compare_memory(case, &ours)?;
     }
-    Ok(refusal)
+    Ok(ours.err().map_or(0, |(refusal, _)| refusal))
 }
 
 fn as_numbers(record: loadplan::plan::Record) -> Record {
@@ -206,30 +261,26 @@ fn as_numbers(record: loadplan::plan::Record) -> Record {
 }
 
 /// Loads and carries out over memory full of something else, and looks at every byte.
-fn compare_memory(case: &Case, ours: &Result<Vec<Record>, u32>) -> Result<(), String> {
+fn compare_memory(case: &Case<'_>, planned: &Result<Vec<Record>, (u32, u32)>) -> Result<(), String> {
     let old = vec![FILL; case.window.length as usize];
-    let expected = match ours {
-        Ok(records) => rendering::memory(records, &case.file, case.window.start, &old),
-        Err(_) => old.clone(),
-    };
     let mut table = vec![FILL; case.room];
     let mut memory = old.clone();
-    let loaded = load(&case.file, case.window, &mut table, &mut memory);
-    if loaded.map(|plan| plan.len()).map_err(|refusal| refusal.number())
-        != ours.as_ref().map(Vec::len).map_err(|refusal| *refusal)
-    {
-        return Err(format!("loading answers {loaded:?}, planning {ours:x?}"));
+    let loaded = load(case.file, case.window, &mut table, &mut memory);
+    if loaded.map(|plan| plan.len()).map_err(as_pair) != planned.as_ref().map(Vec::len).map_err(|refusal| *refusal) {
+        return Err(format!("loading answers {loaded:?}, planning {planned:x?}"));
     }
+    let Ok(plan) = loaded else {
+        return if memory == old { Ok(()) } else { Err("a refusal has changed the memory".to_string()) };
+    };
+    let records: Vec<Record> = plan.records().map(as_numbers).collect();
+    let expected = rendering::memory(&records, case.file, case.window.start, &old);
     if memory != expected {
         return Err("loading makes other bytes of the memory".to_string());
     }
-    if let Ok(plan) = loaded {
-        let mut memory = old;
-        carry_out(&case.file, case.window, plan, &mut memory)
-            .map_err(|refusal| format!("not carried out: {refusal}"))?;
-        if memory != expected {
-            return Err("carrying out makes other bytes of the memory than loading".to_string());
-        }
+    let mut memory = old;
+    carry_out(case.file, case.window, plan, &mut memory).map_err(|refusal| format!("not carried out: {refusal}"))?;
+    match memory == expected {
+        true => Ok(()),
+        false => Err("carrying out makes other bytes of the memory than loading".to_string()),
     }
-    Ok(())
 }

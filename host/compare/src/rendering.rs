@@ -1,7 +1,5 @@
-//! The load plan's rules, written down a second time as plainly as can be, to compare with.
-//!
-//! It works on the numbers that a file was made with, not on its bytes: so it shares nothing with the reader, and a fault in
-//! reading shows as well. All sums are taken in 128 bits.
+//! The load plan's rules, written down a second time as plainly as can be, to compare with. They work on the numbers of a
+//! file, not on its bytes. All sums are taken in 128 bits.
 
 use crate::maker::Segment;
 
@@ -9,7 +7,7 @@ const PAGE: u128 = 4096;
 const LONGEST_WINDOW: u64 = 1 << 32;
 
 /// A file that can be opened, as the numbers in it.
-#[derive(Clone, Debug)]
+#[derive(Clone, Debug, PartialEq, Eq)]
 pub struct Numbers {
     pub kind: u16,
     pub entry: u64,

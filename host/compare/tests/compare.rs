@@ -5,11 +5,12 @@
 use loadplan_compare::compare::{faults_of_the_list, Comparison, Findings};
 use loadplan_compare::damage::{damaged_at_random, Amount};
 use loadplan_compare::hash_tables::hash_tables;
-use loadplan_compare::made::made;
+use loadplan_compare::made::{long_files, made};
 use loadplan_compare::oracle::Oracle;
 use loadplan_compare::places;
 use loadplan_compare::plans;
 use loadplan_compare::port::Port;
+use loadplan_compare::recorded;
 
 const REFUSALS: [u32; 10] = [0, 14, 20, 21, 22, 23, 24, 25, 26, 27];
 
@@ -33,12 +34,34 @@ fn the_port_answers_as_the_list_of_differences_says() {
 }
 
 #[test]
+fn damaged_files_are_answered_as_recorded() {
+    let page =
+        std::fs::read_to_string(places::repository().join("tests/answers/damaged.txt")).expect("answers are recorded");
+    let corpus = places::corpus().expect("the corpus is there");
+    assert_eq!(page.lines().count(), corpus.len());
+    for (file, line) in corpus.iter().zip(page.lines()) {
+        assert_eq!(recorded::of_the_port(file, &Port::default()), line);
+    }
+}
+
+#[test]
 fn random_files_are_planned_and_loaded_by_the_rules() {
     let tally = plans::compare(200_000, 1).unwrap_or_else(|fault| panic!("{fault}"));
     for refusal in REFUSALS {
         let count = tally.get(&refusal).copied().unwrap_or(0);
         assert!(count >= 100, "refusal {refusal} was the answer {count} times only");
     }
+}
+
+#[test]
+fn damaged_files_are_planned_and_loaded_by_the_rules() {
+    let mut tally = plans::Tally::new();
+    for file in places::corpus().expect("the corpus is there") {
+        let amount = Amount { front: 256, random: 500, seed: 1 };
+        plans::compare_damaged(&file.name, &file.bytes, amount, &mut tally).unwrap_or_else(|fault| panic!("{fault}"));
+    }
+    let refusals = REFUSALS.iter().filter(|refusal| **refusal != 14);
+    assert!(refusals.into_iter().all(|refusal| tally.contains_key(refusal)), "{tally:?}");
 }
 
 /// The program that asks the crate, where the crate's text is at hand.
@@ -67,6 +90,10 @@ fn the_crate_and_the_port_answer_the_same() {
         tables.iter().for_each(|file| damaged_at_random(&file.name, &file.bytes, few, each))
     };
     comparison.inputs("hash tables", &inputs).expect("the comparison works");
+    let long = long_files();
+    comparison
+        .inputs("long files", &|each| long.iter().for_each(|file| each(&file.bytes)))
+        .expect("the comparison works");
     let findings = &comparison.findings;
     println!("compared {} inputs, {} answers", findings.inputs, findings.answers);
     assert!(findings.inputs >= 200_000, "{} inputs only", findings.inputs);
