@@ -16,6 +16,7 @@ use loadplan::{abi, ElfBytes};
 use crate::arguments::Arguments;
 use crate::machine::{self, Mapping};
 use crate::plan_command::{refused, room_for};
+use crate::progress::Progress;
 use crate::window::{self, loaded_segments, needed};
 use crate::{read, Fault, Verdict};
 
@@ -35,6 +36,8 @@ Exit status: that of the program, 128 and the signal if one ended it (said on th
 
 /// What memory is filled with before a program is loaded.
 const FILL: u8 = 0xaa;
+/// How much of it is filled between two looks at the clock.
+const FILLED_AT_ONCE: usize = 64 << 20;
 /// Segments may ask for more, and are then put where the system likes.
 const LARGEST_ALIGNMENT: u64 = 1 << 30;
 
@@ -119,7 +122,7 @@ fn load_blind(
     mapping: &mut Mapping,
 ) -> Result<Result<(), Refusal>, Fault> {
     let memory = mapping.bytes(window.start, window.length).map_err(no_memory)?;
-    memory.fill(FILL);
+    fill(memory);
     let plan = match load(file, window, table, memory) {
         Ok(plan) => plan,
         Err(refusal) => return Ok(Err(refusal)),
@@ -129,6 +132,15 @@ fn load_blind(
         mapping.protect(record.pages, record.pages_length, record.flags).map_err(no_memory)?;
     }
     Ok(Ok(()))
+}
+
+fn fill(memory: &mut [u8]) {
+    let parts = memory.len().div_ceil(FILLED_AT_ONCE);
+    let mut progress = Progress::new("parts of the window filled");
+    for (done, part) in memory.chunks_mut(FILLED_AT_ONCE).enumerate() {
+        part.fill(FILL);
+        progress.done(done + 1, Some(parts));
+    }
 }
 
 fn no_memory(fault: std::io::Error) -> Fault {

@@ -58,7 +58,7 @@ fn visible(name: &[u8]) -> String {
 }
 
 /// The string at an offset, or why there is none.
-fn named(strings: Option<StringTable<'_>>, offset: u32) -> String {
+fn named(strings: Option<StringTable<'_>>, offset: u64) -> String {
     match strings.map(|strings| strings.get_raw(offset as usize)) {
         Some(Ok(name)) => visible(name),
         Some(Err(fault)) => format!("<refused, {}>", fault.number()),
@@ -152,7 +152,7 @@ impl Shown<'_> {
         for (number, section) in table.iter().enumerate() {
             let SectionHeader { sh_type, sh_addr, sh_offset, sh_size, sh_entsize, sh_link, sh_info, .. } = section;
             let (kind, flags) = (name(names::SECTION_TYPES, sh_type.into()), names::section_flags(section.sh_flags));
-            let (align, name) = (section.sh_addralign, named(names, section.sh_name));
+            let (align, name) = (section.sh_addralign, named(names, section.sh_name.into()));
             let flags = if flags.is_empty() { "-" } else { &flags };
             writeln!(
                 self.output,
@@ -185,7 +185,7 @@ impl Shown<'_> {
             let binding = with_number(names::SYMBOL_BINDINGS, symbol.st_bind().into());
             let visibility = with_number(names::VISIBILITIES, symbol.st_vis().into());
             let section = names::symbol_section(symbol.st_shndx);
-            let name = named(Some(strings), symbol.st_name);
+            let name = named(Some(strings), symbol.st_name.into());
             writeln!(
                 self.output,
                 "  {number:>6} {st_value:>16x} {st_size:>8}  {kind:<9} {binding:<9} {visibility:<11} {section:>7} {name}"
@@ -207,7 +207,7 @@ impl Shown<'_> {
         for entry in table.iter().take(end) {
             let (tag, value) = (entry.d_tag as u64, entry.d_val());
             let string = match names::DYNAMIC_STRINGS.contains(&entry.d_tag) && strings.is_some() {
-                true => format!(" {}", named(strings, value as u32)),
+                true => format!(" {}", named(strings, value)),
                 false => String::new(),
             };
             writeln!(self.output, "  {tag:>8x} {:<15} {value:>16x}{string}", name(names::DYNAMIC_TAGS, tag))?;
