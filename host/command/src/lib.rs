@@ -13,7 +13,7 @@ mod machine;
 mod names;
 mod picture;
 mod plan_command;
-mod progress;
+pub mod progress;
 #[cfg(all(target_os = "linux", target_arch = "x86_64"))]
 mod run_command;
 #[cfg(not(all(target_os = "linux", target_arch = "x86_64")))]

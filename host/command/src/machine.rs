@@ -113,10 +113,10 @@ impl Drop for Mapping {
     }
 }
 
-/// Starts a child process that jumps to `entry` with an empty stack of its own, and waits for its end. Output that this
-/// process holds back must have been written before. What the child does is the program's affair: it has a copy of this
+/// Starts a child process that jumps to `entry` in a program that was loaded, with an empty stack of its own, and waits for its
+/// end. Output that this process holds back must have been written before. What the child does is the program's affair: it has a copy of this
 /// process and cannot change this one.
-pub fn run(entry: u64) -> io::Result<ExitStatus> {
+pub fn run(_loaded: &Mapping, entry: u64) -> io::Result<ExitStatus> {
     let stack = Mapping::new(None, STACK as u64)?;
     let top = stack.end() - STACK_TOP;
     // SAFETY: this process has one thread, so the child has all of it.

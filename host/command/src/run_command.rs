@@ -52,24 +52,18 @@ pub fn run(mut arguments: Arguments, output: &mut dyn Write) -> Result<Verdict, 
         eprintln!("{}: refused: {reason}", path.display());
         return Ok(Verdict::Refused);
     }
-    let mut table = room_for(&file);
     let wanted = named.unwrap_or_else(|| smallest(&file));
-    // Planned before memory is asked for, which a file that is refused anyway may want too much of.
-    let mut loaded = plan(&file, wanted, &mut table).map(|_| wanted);
-    if loaded.is_ok() {
-        let (mut mapping, window) = map(&file, wanted, named.is_some())?;
-        loaded = load_blind(&file, window, &mut table, &mut mapping)?.map(|()| window);
-        if loaded.is_ok() {
-            output.flush()?;
-            let ended =
-                machine::run(entry(&file, window)).map_err(|fault| Fault::new(format_args!("no child: {fault}")))?;
-            return Ok(ended_with(&path, ended));
+    let (mapping, window) = match load_blind(&file, wanted, named.is_some())? {
+        Ok(loaded) => loaded,
+        Err(refusal) => {
+            eprint!("{}", refused(&path, &file, wanted, refusal));
+            return Ok(Verdict::Refused);
         }
-    }
-    if let Err(refusal) = loaded {
-        eprint!("{}", refused(&path, &file, wanted, refusal));
-    }
-    Ok(Verdict::Refused)
+    };
+    output.flush()?;
+    let ended = machine::run(&mapping, entry(&file, window));
+    let ended = ended.map_err(|fault| Fault::new(format_args!("no child process: {fault}")))?;
+    Ok(ended_with(&path, ended))
 }
 
 /// Why a file that can be opened is not run here. A file that cannot be opened is left to the plan, which says why.
@@ -114,16 +108,17 @@ fn largest_alignment(elf: &ElfBytes<'_, AnyEndian>) -> u64 {
     alignments.filter(|align| *align <= LARGEST_ALIGNMENT).fold(PAGE, u64::max)
 }
 
-/// Fills the window, loads the program over that, and takes away what the records do not allow.
-fn load_blind(
-    file: &[u8],
-    window: Window,
-    table: &mut [u8],
-    mapping: &mut Mapping,
-) -> Result<Result<(), Refusal>, Fault> {
+/// Fills a window, loads the program over that, and takes away what the records do not allow.
+fn load_blind(file: &[u8], wanted: Window, named: bool) -> Result<Result<(Mapping, Window), Refusal>, Fault> {
+    let mut table = room_for(file);
+    // Planned before memory is asked for, which a file that is refused anyway may want too much of.
+    if let Err(refusal) = plan(file, wanted, &mut table) {
+        return Ok(Err(refusal));
+    }
+    let (mut mapping, window) = map(file, wanted, named)?;
     let memory = mapping.bytes(window.start, window.length).map_err(no_memory)?;
     fill(memory);
-    let plan = match load(file, window, table, memory) {
+    let plan = match load(file, window, &mut table, memory) {
         Ok(plan) => plan,
         Err(refusal) => return Ok(Err(refusal)),
     };
@@ -131,7 +126,7 @@ fn load_blind(
     for record in plan.records() {
         mapping.protect(record.pages, record.pages_length, record.flags).map_err(no_memory)?;
     }
-    Ok(Ok(()))
+    Ok(Ok((mapping, window)))
 }
 
 fn fill(memory: &mut [u8]) {

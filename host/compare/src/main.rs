@@ -7,6 +7,7 @@ use std::process::ExitCode;
 use std::time::Instant;
 
 use loadplan_command::arguments::Arguments;
+use loadplan_command::progress::Progress;
 use loadplan_command::{read, Fault};
 use loadplan_compare::compare::{faults_of_the_list, Comparison, Findings};
 use loadplan_compare::damage::{damaged_at_random, Amount};
@@ -127,9 +128,12 @@ fn compare(mut arguments: Arguments) -> Result<bool, Fault> {
         if named.is_empty() { (hash_tables(seed), long_files()) } else { (Vec::new(), Vec::new()) };
     let since = Instant::now();
     let mut comparison = Comparison { oracle: &oracle, port: &port, findings: Findings::default() };
+    let mut progress = Progress::new("inputs compared");
     for file in files(named)? {
         comparison.file(&file, Amount { front, random, seed }).map_err(cannot_compare)?;
+        progress.done(comparison.findings.inputs as usize, None);
     }
+    drop(progress);
     let of_a_hash_table = Amount { front: 0, random: random / 50, seed };
     comparison
         .inputs("hash tables", &|each| {
