@@ -1,6 +1,7 @@
-// The entries as rows of numbers, as they cross to C.
+// The entries as rows of numbers, as they cross to C: the values in the order in which include/loadplan.h lists them.
+// Signed numbers cross as two's complement of 64 bits.
 ghost use mathlib.Core.Path.{_≡_};
-ghost use Rattle.rows.specs.Row.{twos};
+ghost use Rattle.rows.specs.Row.{twos, sectionRow, segmentRow, symbolRow, relRow, relaRow, dynRow};
 use dynamic::Dyn;
 use relocation::Rel;
 use relocation::Rela;
@@ -8,7 +9,7 @@ use section::SectionHeader;
 use segment::ProgramHeader;
 use symbol::Symbol;
 
-// The two's complement of a signed number.
+// The two's complement of a signed number: the machine has its bits already.
 pub fn unsigned(n: i64) -> u64
     ensures { λ r. ⌜ r ≡ twos 8 n ⌝ }
 {
@@ -18,7 +19,9 @@ pub fn unsigned(n: i64) -> u64
     n as u64
 }
 
-pub fn section_row(h: SectionHeader) -> [u64; 10] {
+pub fn section_row(h: SectionHeader) -> [u64; 10]
+    ensures { λ r. ⌜ r ≡ sectionRow h ⌝ }
+{
     [
         h.name as u64,
         h.kind as u64,
@@ -33,7 +36,9 @@ pub fn section_row(h: SectionHeader) -> [u64; 10] {
     ]
 }
 
-pub fn segment_row(h: ProgramHeader) -> [u64; 8] {
+pub fn segment_row(h: ProgramHeader) -> [u64; 8]
+    ensures { λ r. ⌜ r ≡ segmentRow h ⌝ }
+{
     [
         h.kind as u64,
         h.offset,
@@ -46,7 +51,9 @@ pub fn segment_row(h: ProgramHeader) -> [u64; 8] {
     ]
 }
 
-pub fn symbol_row(s: Symbol) -> [u64; 6] {
+pub fn symbol_row(s: Symbol) -> [u64; 6]
+    ensures { λ r. ⌜ r ≡ symbolRow s ⌝ }
+{
     [
         s.name as u64,
         s.shndx as u64,
@@ -57,14 +64,20 @@ pub fn symbol_row(s: Symbol) -> [u64; 6] {
     ]
 }
 
-pub fn rel_row(x: Rel) -> [u64; 3] {
+pub fn rel_row(x: Rel) -> [u64; 3]
+    ensures { λ r. ⌜ r ≡ relRow x ⌝ }
+{
     [x.offset, x.sym as u64, x.kind as u64]
 }
 
-pub fn rela_row(x: Rela) -> [u64; 4] {
+pub fn rela_row(x: Rela) -> [u64; 4]
+    ensures { λ r. ⌜ r ≡ relaRow x ⌝ }
+{
     [x.offset, x.sym as u64, x.kind as u64, unsigned(x.addend)]
 }
 
-pub fn dyn_row(x: Dyn) -> [u64; 2] {
+pub fn dyn_row(x: Dyn) -> [u64; 2]
+    ensures { λ r. ⌜ r ≡ dynRow x ⌝ }
+{
     [unsigned(x.tag), x.un]
 }

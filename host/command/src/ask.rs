@@ -1,8 +1,9 @@
 //! The canonical answers: every question about a file, one line each, in a fixed order.
 //!
 //! A line is `01 QUESTION = ANSWER`; an answer is `ok` with its values, `none`, or `err` with a number. The text is compared
-//! byte by byte with recorded answers, so nothing in it may change by itself. Ranges are offsets in the file. Sums over
-//! walks are taken value by value: (sum xor value) times a prime, from a fixed start.
+//! byte by byte with recorded answers, so nothing in it may change by itself.
+
+mod values;
 
 use std::fmt::{Arguments, Write};
 
@@ -11,12 +12,16 @@ use loadplan::endian::AnyEndian;
 use loadplan::file::Class;
 use loadplan::hash::{sysv_hash, SysVHashTable};
 use loadplan::parse::ParseAt;
-use loadplan::relocation::{Rel, Rela};
 use loadplan::section::SectionHeader;
 use loadplan::segment::ProgramHeader;
 use loadplan::string_table::StringTable;
 use loadplan::symbol::{Symbol, SymbolTable};
 use loadplan::{CommonElfData, ElfBytes, ParseError, SymbolsAndStrings};
+
+use values::{
+    add_to_sum, dyn_values, rel_values, rela_values, section_values, segment_values, symbol_values, walked, Hash, Hex,
+    Named, Values, SUM_START,
+};
 
 type Elf<'file> = ElfBytes<'file, AnyEndian>;
 
@@ -33,16 +38,10 @@ const MANY_SECTIONS: usize = 4096;
 const HASH_SECTION: u32 = 5;
 
 /// Section names that are looked up in every file.
-const SECTION_NAMES: [&str; 9] = ["", ".text", ".symtab", ".dynsym", ".dynstr", ".hash", ".shstrtab", ".nosuch", "main"];
+const SECTION_NAMES: [&str; 9] =
+    ["", ".text", ".symtab", ".dynsym", ".dynstr", ".hash", ".shstrtab", ".nosuch", "main"];
 /// Symbol names that are looked up in every file, behind those of its own symbols.
 const SYMBOL_NAMES: [&[u8]; 6] = [b"", b"printf", b"exit", b"memcpy", b"no_such_symbol_zz", b"\xff\xfe"];
-
-const SUM_START: u64 = 0xcbf2_9ce4_8422_2325;
-const SUM_PRIME: u64 = 0x100_0000_01b3;
-
-fn add_to_sum(sum: u64, value: u64) -> u64 {
-    (sum ^ value).wrapping_mul(SUM_PRIME)
-}
 
 /// The digest of a text: the sum over its bytes.
 pub fn digest(text: &str) -> u64 {
@@ -62,155 +61,6 @@ pub fn ask(file: &[u8], full: bool) -> String {
     answers.text
 }
 
-/// What stands behind `ok`.
-trait Values {
-    fn write(&self, file: &[u8], to: &mut String);
-}
-
-impl Values for () {
-    fn write(&self, _: &[u8], _: &mut String) {}
-}
-
-impl Values for usize {
-    fn write(&self, _: &[u8], to: &mut String) {
-        let _ = write!(to, " {self}");
-    }
-}
-
-impl<const N: usize> Values for [u64; N] {
-    fn write(&self, _: &[u8], to: &mut String) {
-        for value in self {
-            let _ = write!(to, " {value}");
-        }
-    }
-}
-
-/// Bytes of the file are written as the range that they are.
-impl Values for &[u8] {
-    fn write(&self, file: &[u8], to: &mut String) {
-        let from = (self.as_ptr() as usize).wrapping_sub(file.as_ptr() as usize);
-        let _ = write!(to, " {from}..{}", from.wrapping_add(self.len()));
-    }
-}
-
-impl Values for &str {
-    fn write(&self, file: &[u8], to: &mut String) {
-        self.as_bytes().write(file, to);
-    }
-}
-
-impl<A: Values, B: Values> Values for (A, B) {
-    fn write(&self, file: &[u8], to: &mut String) {
-        self.0.write(file, to);
-        self.1.write(file, to);
-    }
-}
-
-/// A part of an answer that may be absent, behind its name.
-struct Named<T>(&'static str, Option<T>);
-
-impl<T: Values> Values for Named<T> {
-    fn write(&self, file: &[u8], to: &mut String) {
-        let _ = write!(to, " {}", self.0);
-        match &self.1 {
-            Some(values) => values.write(file, to),
-            None => to.push_str(" none"),
-        }
-    }
-}
-
-impl Values for Dyn {
-    fn write(&self, _: &[u8], to: &mut String) {
-        let _ = write!(to, " {} {}", self.d_tag, self.d_val());
-    }
-}
-
-/// A count and a sum.
-struct Walked(u64, u64);
-
-impl Values for Walked {
-    fn write(&self, _: &[u8], to: &mut String) {
-        let _ = write!(to, " {} {:016x}", self.0, self.1);
-    }
-}
-
-struct Hash(u32);
-
-impl Values for Hash {
-    fn write(&self, _: &[u8], to: &mut String) {
-        let _ = write!(to, " {:08x}", self.0);
-    }
-}
-
-fn walked<T, const N: usize>(entries: impl Iterator<Item = T>, values: impl Fn(&T) -> [u64; N]) -> Walked {
-    entries.fold(Walked(0, SUM_START), |Walked(count, sum), entry| {
-        Walked(count + 1, values(&entry).into_iter().fold(sum, add_to_sum))
-    })
-}
-
-/// A name in hexadecimal; the empty one is a dash.
-struct Hex<'name>(&'name [u8]);
-
-impl std::fmt::Display for Hex<'_> {
-    fn fmt(&self, to: &mut std::fmt::Formatter<'_>) -> std::fmt::Result {
-        if self.0.is_empty() {
-            return to.write_str("-");
-        }
-        self.0.iter().try_for_each(|byte| write!(to, "{byte:02x}"))
-    }
-}
-
-fn section_values(header: &SectionHeader) -> [u64; 10] {
-    [
-        header.sh_name.into(),
-        header.sh_type.into(),
-        header.sh_flags,
-        header.sh_addr,
-        header.sh_offset,
-        header.sh_size,
-        header.sh_link.into(),
-        header.sh_info.into(),
-        header.sh_addralign,
-        header.sh_entsize,
-    ]
-}
-
-fn segment_values(header: &ProgramHeader) -> [u64; 8] {
-    [
-        header.p_type.into(),
-        header.p_offset,
-        header.p_vaddr,
-        header.p_paddr,
-        header.p_filesz,
-        header.p_memsz,
-        header.p_flags.into(),
-        header.p_align,
-    ]
-}
-
-fn symbol_values(symbol: &Symbol) -> [u64; 6] {
-    [
-        symbol.st_name.into(),
-        symbol.st_shndx.into(),
-        symbol.st_info.into(),
-        symbol.st_other.into(),
-        symbol.st_value,
-        symbol.st_size,
-    ]
-}
-
-fn rel_values(rel: &Rel) -> [u64; 3] {
-    [rel.r_offset, rel.r_sym.into(), rel.r_type.into()]
-}
-
-fn rela_values(rela: &Rela) -> [u64; 4] {
-    [rela.r_offset, rela.r_sym.into(), rela.r_type.into(), rela.r_addend as u64]
-}
-
-fn dyn_values(entry: &Dyn) -> [u64; 2] {
-    [entry.d_tag as u64, entry.d_val()]
-}
-
 /// The numbers in ascending order, each once.
 fn ascending(mut numbers: Vec<usize>) -> Vec<usize> {
     numbers.sort_unstable();
@@ -222,7 +72,8 @@ fn ascending(mut numbers: Vec<usize>) -> Vec<usize> {
 /// those behind the end, and those around the limits of 32 and of 64 bits.
 fn probes(count: usize, size: usize, full: bool) -> Vec<usize> {
     let most = usize::MAX;
-    let mut numbers = vec![0, 1, 2, count / 2, count.wrapping_sub(2), count.wrapping_sub(1), count, count + 1, count + 2];
+    let mut numbers =
+        vec![0, 1, 2, count / 2, count.wrapping_sub(2), count.wrapping_sub(1), count, count + 1, count + 2];
     numbers.extend([u32::MAX as usize, 1 << 32, most / size, most / size + 1, most - 1, most]);
     if full {
         numbers.extend(0..count);

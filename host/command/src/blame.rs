@@ -25,7 +25,9 @@ pub fn faults(file: &[u8], window: Window, refusal: Refusal) -> Vec<String> {
     let place = Place::new(&elf, window);
     match refusal {
         Refusal::NotOpened(_) => not_opened(file),
-        Refusal::FileType => vec![format!("its type is {}", names::with_number(names::FILE_TYPES, elf.ehdr.e_type.into()))],
+        Refusal::FileType => {
+            vec![format!("its type is {}", names::with_number(names::FILE_TYPES, elf.ehdr.e_type.into()))]
+        }
         Refusal::SegmentBytes => each(&loaded, |header| bytes_fault(header, file.len())),
         Refusal::SegmentAlignment => each(&loaded, alignment_fault),
         Refusal::OutsideWindow => place.window_faults(&with_memory),
@@ -110,7 +112,9 @@ impl Place {
         let end = u128::from(start) + u128::from(length);
         let mut faults = Vec::new();
         if start % PAGE != 0 || length % PAGE != 0 {
-            faults.push(format!("the window's start {start:#x} and length {length:#x} are not both multiples of {PAGE:#x}"));
+            faults.push(format!(
+                "the window's start {start:#x} and length {length:#x} are not both multiples of {PAGE:#x}"
+            ));
         }
         if length > LONGEST_WINDOW {
             faults.push(format!("the window's length {length:#x} is above {LONGEST_WINDOW:#x}"));

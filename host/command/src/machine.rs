@@ -28,12 +28,24 @@ const STACK: usize = 8 << 20;
 /// rounded up so that the stack pointer stays a multiple of 16.
 const STACK_TOP: u64 = 64;
 
+/// Ends a process with a signal when its parent ends.
+const PR_SET_PDEATHSIG: c_int = 1;
+const SIGKILL: std::os::raw::c_ulong = 9;
+
 extern "C" {
-    fn mmap(address: *mut c_void, length: usize, protection: c_int, flags: c_int, file: c_int, offset: i64) -> *mut c_void;
+    fn mmap(
+        address: *mut c_void,
+        length: usize,
+        protection: c_int,
+        flags: c_int,
+        file: c_int,
+        offset: i64,
+    ) -> *mut c_void;
     fn munmap(address: *mut c_void, length: usize) -> c_int;
     fn mprotect(address: *mut c_void, length: usize, protection: c_int) -> c_int;
     fn fork() -> c_int;
     fn waitpid(process: c_int, status: *mut c_int, options: c_int) -> c_int;
+    fn prctl(option: c_int, ...) -> c_int;
 }
 
 /// Pages that this process has for itself.
@@ -110,8 +122,12 @@ pub fn run(entry: u64) -> io::Result<ExitStatus> {
     // SAFETY: this process has one thread, so the child has all of it.
     match unsafe { fork() } {
         -1 => Err(io::Error::last_os_error()),
-        // SAFETY: never returns; whatever happens behind the jump happens in the child.
-        0 => unsafe { jump(entry, top) },
+        // SAFETY: a number is asked for and a number given; the jump never returns, and whatever happens behind it happens
+        // in the child.
+        0 => unsafe {
+            prctl(PR_SET_PDEATHSIG, SIGKILL);
+            jump(entry, top)
+        },
         child => wait(child),
     }
 }

@@ -136,16 +136,8 @@ pub fn section_flags(flags: u64) -> String {
     known + &others
 }
 
-pub const SYMBOL_TYPES: Names = &[
-    (0, "NOTYPE"),
-    (1, "OBJECT"),
-    (2, "FUNC"),
-    (3, "SECTION"),
-    (4, "FILE"),
-    (5, "COMMON"),
-    (6, "TLS"),
-    (10, "IFUNC"),
-];
+pub const SYMBOL_TYPES: Names =
+    &[(0, "NOTYPE"), (1, "OBJECT"), (2, "FUNC"), (3, "SECTION"), (4, "FILE"), (5, "COMMON"), (6, "TLS"), (10, "IFUNC")];
 
 pub const SYMBOL_BINDINGS: Names = &[(0, "LOCAL"), (1, "GLOBAL"), (2, "WEAK"), (10, "UNIQUE")];
 

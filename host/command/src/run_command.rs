@@ -10,7 +10,7 @@ use std::process::ExitStatus;
 
 use loadplan::endian::AnyEndian;
 use loadplan::file::Class;
-use loadplan::plan::{load, Plan, Refusal, Window, PAGE};
+use loadplan::plan::{load, plan, Refusal, Window, PAGE};
 use loadplan::{abi, ElfBytes};
 
 use crate::arguments::Arguments;
@@ -35,6 +35,8 @@ Exit status: that of the program, 128 and the signal if one ended it (said on th
 
 /// What memory is filled with before a program is loaded.
 const FILL: u8 = 0xaa;
+/// Segments may ask for more, and are then put where the system likes.
+const LARGEST_ALIGNMENT: u64 = 1 << 30;
 
 /// Dynamic entries that say how long a table of relocations is: with and without addends, of calls, packed.
 const RELOCATION_SIZES: [i64; 4] = [8, 18, 2, 35];
@@ -47,20 +49,24 @@ pub fn run(mut arguments: Arguments, output: &mut dyn Write) -> Result<Verdict, 
         eprintln!("{}: refused: {reason}", path.display());
         return Ok(Verdict::Refused);
     }
-    let (mut mapping, window) = map(&file, named)?;
     let mut table = room_for(&file);
-    match load_blind(&file, window, &mut table, &mut mapping)? {
-        Err(refusal) => {
-            eprint!("{}", refused(&path, &file, window, refusal));
-            Ok(Verdict::Refused)
-        }
-        Ok(plan) => {
-            protect(&mut mapping, window, plan)?;
+    let wanted = named.unwrap_or_else(|| smallest(&file));
+    // Planned before memory is asked for, which a file that is refused anyway may want too much of.
+    let mut loaded = plan(&file, wanted, &mut table).map(|_| wanted);
+    if loaded.is_ok() {
+        let (mut mapping, window) = map(&file, wanted, named.is_some())?;
+        loaded = load_blind(&file, window, &mut table, &mut mapping)?.map(|()| window);
+        if loaded.is_ok() {
             output.flush()?;
-            let ended = machine::run(entry(&file, window)).map_err(|fault| Fault::new(format_args!("no child: {fault}")))?;
-            Ok(ended_with(&path, ended))
+            let ended =
+                machine::run(entry(&file, window)).map_err(|fault| Fault::new(format_args!("no child: {fault}")))?;
+            return Ok(ended_with(&path, ended));
         }
     }
+    if let Err(refusal) = loaded {
+        eprint!("{}", refused(&path, &file, wanted, refusal));
+    }
+    Ok(Verdict::Refused)
 }
 
 /// Why a file that can be opened is not run here. A file that cannot be opened is left to the plan, which says why.
@@ -78,51 +84,51 @@ fn not_for_here(file: &[u8]) -> Option<&'static str> {
     dynamic.iter().any(relocated).then_some("it has relocations, which are not carried out")
 }
 
-/// Memory for the window: the named one, else the smallest that the file needs.
-fn map(file: &[u8], named: Option<Window>) -> Result<(Mapping, Window), Fault> {
-    let elf = ElfBytes::<AnyEndian>::minimal_parse(file);
-    let position_independent = elf.as_ref().is_ok_and(|elf| elf.ehdr.e_type == abi::ET_DYN);
-    let smallest = elf.as_ref().ok().and_then(needed);
-    // A file that is refused anyway needs some window to be refused in.
-    let window = named.or(smallest).unwrap_or(Window { start: 0, length: PAGE });
-    let fault = |fault| {
-        let Window { start, length } = window;
-        Fault::new(format_args!("the window {start:#x}+{length:#x} cannot be had: {fault}"))
-    };
-    if named.is_none() && (position_independent || smallest.is_none()) {
-        let align = elf.map_or(PAGE, |elf| largest_alignment(&elf));
-        let mapping = Mapping::new(None, window.length.saturating_add(align)).map_err(fault)?;
-        let start = mapping.start().next_multiple_of(align);
-        return Ok((mapping, Window { start, length: window.length }));
-    }
-    let mapping = Mapping::new(Some(window.start), window.length).map_err(fault)?;
-    Ok((mapping, window))
+/// The smallest window that holds a file. One that no window holds is refused in any.
+fn smallest(file: &[u8]) -> Window {
+    let elf = ElfBytes::<AnyEndian>::minimal_parse(file).ok();
+    elf.as_ref().and_then(needed).unwrap_or(Window { start: 0, length: 0 })
 }
 
-/// The largest alignment that a segment asks for, a page at least. Nonsense is left to the plan, which refuses it.
+/// Memory for a window, at its start if that was named or the file asks for it, else where the system likes.
+fn map(file: &[u8], wanted: Window, named: bool) -> Result<(Mapping, Window), Fault> {
+    let Window { start, length } = wanted;
+    let fault = |fault| Fault::new(format_args!("the window {start:#x}+{length:#x} cannot be had: {fault}"));
+    match ElfBytes::<AnyEndian>::minimal_parse(file) {
+        Ok(elf) if elf.ehdr.e_type == abi::ET_DYN && !named => {
+            let align = largest_alignment(&elf);
+            let mapping = Mapping::new(None, length + align).map_err(fault)?;
+            let start = mapping.start().next_multiple_of(align);
+            Ok((mapping, Window { start, length }))
+        }
+        _ => Ok((Mapping::new(Some(start), length).map_err(fault)?, wanted)),
+    }
+}
+
+/// The largest alignment that a segment asks for, a page at least, and at most what can be had.
 fn largest_alignment(elf: &ElfBytes<'_, AnyEndian>) -> u64 {
     let alignments = loaded_segments(elf).map(|(_, header)| header.p_align);
-    alignments.filter(|align| align.is_power_of_two() && *align <= 1 << 32).fold(PAGE, u64::max)
+    alignments.filter(|align| *align <= LARGEST_ALIGNMENT).fold(PAGE, u64::max)
 }
 
-fn load_blind<'table>(
+/// Fills the window, loads the program over that, and takes away what the records do not allow.
+fn load_blind(
     file: &[u8],
     window: Window,
-    table: &'table mut [u8],
+    table: &mut [u8],
     mapping: &mut Mapping,
-) -> Result<Result<Plan<'table>, Refusal>, Fault> {
+) -> Result<Result<(), Refusal>, Fault> {
     let memory = mapping.bytes(window.start, window.length).map_err(no_memory)?;
     memory.fill(FILL);
-    Ok(load(file, window, table, memory))
-}
-
-/// Nothing is allowed in the window but what the records say.
-fn protect(mapping: &mut Mapping, window: Window, plan: Plan<'_>) -> Result<(), Fault> {
+    let plan = match load(file, window, table, memory) {
+        Ok(plan) => plan,
+        Err(refusal) => return Ok(Err(refusal)),
+    };
     mapping.protect(window.start, window.length, 0).map_err(no_memory)?;
     for record in plan.records() {
         mapping.protect(record.pages, record.pages_length, record.flags).map_err(no_memory)?;
     }
-    Ok(())
+    Ok(Ok(()))
 }
 
 fn no_memory(fault: std::io::Error) -> Fault {

@@ -52,7 +52,9 @@ pub fn run(arguments: Arguments, output: &mut dyn Write) -> Result<Verdict, Faul
 /// A name as it may be written to a terminal.
 fn visible(name: &[u8]) -> String {
     let text = String::from_utf8_lossy(name);
-    text.chars().flat_map(|letter| if letter.is_control() { letter.escape_default().collect() } else { vec![letter] }).collect()
+    text.chars()
+        .flat_map(|letter| if letter.is_control() { letter.escape_default().collect() } else { vec![letter] })
+        .collect()
 }
 
 /// The string at an offset, or why there is none.
@@ -97,7 +99,7 @@ impl Shown<'_> {
             ("program headers", count(header.e_phnum, elf.segments().map(|table| table.len()))),
             ("section header size", header.e_shentsize.to_string()),
             ("section headers", count(header.e_shnum, elf.section_headers().map(|table| table.len()))),
-            ("section of names", header.e_shstrndx.to_string()),
+            ("section of names", count(header.e_shstrndx, section_of_names(elf))),
         ];
         writeln!(self.output, "header")?;
         for (what, value) in lines {
@@ -219,6 +221,14 @@ fn count(in_header: u16, there: Option<usize>) -> String {
     match there {
         Some(there) if there != usize::from(in_header) => format!("{in_header} ({there})"),
         _ => in_header.to_string(),
+    }
+}
+
+/// The section that has the names, where the header only says that section header 0 knows.
+fn section_of_names(elf: &Elf<'_>) -> Option<usize> {
+    match elf.ehdr.e_shstrndx {
+        abi::SHN_XINDEX => Some(elf.section_headers()?.get(0).ok()?.sh_link as usize),
+        _ => None,
     }
 }
 

@@ -45,6 +45,16 @@ pub type NativeEndian = LittleEndian;
 #[cfg(target_endian = "big")]
 pub type NativeEndian = BigEndian;
 
+/// The same where a value is wanted and not a type.
+#[cfg(target_endian = "little")]
+#[allow(non_upper_case_globals)]
+pub const NativeEndian: LittleEndian = LittleEndian;
+
+/// The same where a value is wanted and not a type.
+#[cfg(target_endian = "big")]
+#[allow(non_upper_case_globals)]
+pub const NativeEndian: BigEndian = BigEndian;
+
 impl EndianParse for AnyEndian {
     fn from_ei_data(ei_data: u8) -> Result<Self, ParseError> {
         match ei_data {

@@ -98,8 +98,12 @@ impl fmt::Display for Refusal {
             Refusal::NotOpened(Some(reason)) => return write!(to, "the file cannot be opened: {reason}"),
             Refusal::NotOpened(None) => "the file is longer than the limit or has no segments",
             Refusal::FileType => "the file is neither an executable nor position independent",
-            Refusal::SegmentBytes => "a segment has more bytes in the file than in memory, or bytes that the file does not have",
-            Refusal::SegmentAlignment => "a segment's alignment is no power of two, or its address and its offset differ modulo it",
+            Refusal::SegmentBytes => {
+                "a segment has more bytes in the file than in memory, or bytes that the file does not have"
+            }
+            Refusal::SegmentAlignment => {
+                "a segment's alignment is no power of two, or its address and its offset differ modulo it"
+            }
             Refusal::OutsideWindow => "a segment's addresses leave the window, or there can be no such window",
             Refusal::SegmentOrder => "segments are not in ascending order of address, or their pages overlap",
             Refusal::WriteExecute => "a segment is both writable and executable",

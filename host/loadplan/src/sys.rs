@@ -23,32 +23,138 @@ extern "C" {
     fn loadplan_section_at(file: *const u8, file_len: usize, i: usize, out: &mut [u64; 10]) -> u32;
     fn loadplan_segment_at(file: *const u8, file_len: usize, i: usize, out: &mut [u64; 8]) -> u32;
     fn loadplan_name_table(file: *const u8, file_len: usize, out: &mut [u64; 3]) -> u32;
-    fn loadplan_section_by_name(file: *const u8, file_len: usize, name: *const u8, name_len: usize, out: &mut [u64; 2]) -> u32;
-    fn loadplan_section_data(file: *const u8, file_len: usize, type_: u32, offset: u64, size: u64, out: &mut [u64; 2]) -> u32;
-    fn loadplan_section_strings(file: *const u8, file_len: usize, type_: u32, offset: u64, size: u64, out: &mut [u64; 2]) -> u32;
-    fn loadplan_section_rels(file: *const u8, file_len: usize, type_: u32, offset: u64, size: u64, out: &mut [u64; 2]) -> u32;
-    fn loadplan_section_relas(file: *const u8, file_len: usize, type_: u32, offset: u64, size: u64, out: &mut [u64; 2]) -> u32;
-    fn loadplan_section_dynamic(file: *const u8, file_len: usize, type_: u32, offset: u64, size: u64, entsize: u64, out: &mut [u64; 2]) -> u32;
-    fn loadplan_section_symbols(file: *const u8, file_len: usize, offset: u64, size: u64, link: u32, entsize: u64, out: &mut [u64; 4]) -> u32;
+    fn loadplan_section_by_name(
+        file: *const u8,
+        file_len: usize,
+        name: *const u8,
+        name_len: usize,
+        out: &mut [u64; 2],
+    ) -> u32;
+    fn loadplan_section_data(
+        file: *const u8,
+        file_len: usize,
+        kind: u32,
+        offset: u64,
+        size: u64,
+        out: &mut [u64; 2],
+    ) -> u32;
+    fn loadplan_section_strings(
+        file: *const u8,
+        file_len: usize,
+        kind: u32,
+        offset: u64,
+        size: u64,
+        out: &mut [u64; 2],
+    ) -> u32;
+    fn loadplan_section_rels(
+        file: *const u8,
+        file_len: usize,
+        kind: u32,
+        offset: u64,
+        size: u64,
+        out: &mut [u64; 2],
+    ) -> u32;
+    fn loadplan_section_relas(
+        file: *const u8,
+        file_len: usize,
+        kind: u32,
+        offset: u64,
+        size: u64,
+        out: &mut [u64; 2],
+    ) -> u32;
+    fn loadplan_section_dynamic(
+        file: *const u8,
+        file_len: usize,
+        kind: u32,
+        offset: u64,
+        size: u64,
+        entsize: u64,
+        out: &mut [u64; 2],
+    ) -> u32;
+    fn loadplan_section_symbols(
+        file: *const u8,
+        file_len: usize,
+        offset: u64,
+        size: u64,
+        link: u32,
+        entsize: u64,
+        out: &mut [u64; 4],
+    ) -> u32;
     fn loadplan_segment_data(file: *const u8, file_len: usize, offset: u64, filesz: u64, out: &mut [u64; 2]) -> u32;
     fn loadplan_symbol_table(file: *const u8, file_len: usize, out: &mut [u64; 5]) -> u32;
     fn loadplan_dynamic_symbol_table(file: *const u8, file_len: usize, out: &mut [u64; 5]) -> u32;
     fn loadplan_dynamic(file: *const u8, file_len: usize, out: &mut [u64; 3]) -> u32;
     fn loadplan_common(file: *const u8, file_len: usize, out: &mut [u64; 16]) -> u32;
 
-    fn loadplan_section(class_: u8, order: u8, table: *const u8, table_len: usize, i: usize, out: &mut [u64; 10]) -> u32;
-    fn loadplan_segment(class_: u8, order: u8, table: *const u8, table_len: usize, i: usize, out: &mut [u64; 8]) -> u32;
+    fn loadplan_section(
+        class_: u8,
+        order: u8,
+        table: *const u8,
+        table_len: usize,
+        i: usize,
+        out: &mut [u64; 10],
+    ) -> u32;
+    fn loadplan_segment(class_: u8, order: u8, table: *const u8, table_len: usize, i: usize, out: &mut [u64; 8])
+        -> u32;
     fn loadplan_symbol(class_: u8, order: u8, table: *const u8, table_len: usize, i: usize, out: &mut [u64; 6]) -> u32;
     fn loadplan_rel(class_: u8, order: u8, table: *const u8, table_len: usize, i: usize, out: &mut [u64; 3]) -> u32;
     fn loadplan_rela(class_: u8, order: u8, table: *const u8, table_len: usize, i: usize, out: &mut [u64; 4]) -> u32;
     fn loadplan_dyn(class_: u8, order: u8, table: *const u8, table_len: usize, i: usize, out: &mut [u64; 2]) -> u32;
 
-    fn loadplan_sections(class_: u8, order: u8, table: *const u8, table_len: usize, from: usize, out: *mut u64, out_len: usize) -> usize;
-    fn loadplan_segments(class_: u8, order: u8, table: *const u8, table_len: usize, from: usize, out: *mut u64, out_len: usize) -> usize;
-    fn loadplan_symbols(class_: u8, order: u8, table: *const u8, table_len: usize, from: usize, out: *mut u64, out_len: usize) -> usize;
-    fn loadplan_rels(class_: u8, order: u8, table: *const u8, table_len: usize, from: usize, out: *mut u64, out_len: usize) -> usize;
-    fn loadplan_relas(class_: u8, order: u8, table: *const u8, table_len: usize, from: usize, out: *mut u64, out_len: usize) -> usize;
-    fn loadplan_dyns(class_: u8, order: u8, table: *const u8, table_len: usize, from: usize, out: *mut u64, out_len: usize) -> usize;
+    fn loadplan_sections(
+        class_: u8,
+        order: u8,
+        table: *const u8,
+        table_len: usize,
+        from: usize,
+        out: *mut u64,
+        out_len: usize,
+    ) -> usize;
+    fn loadplan_segments(
+        class_: u8,
+        order: u8,
+        table: *const u8,
+        table_len: usize,
+        from: usize,
+        out: *mut u64,
+        out_len: usize,
+    ) -> usize;
+    fn loadplan_symbols(
+        class_: u8,
+        order: u8,
+        table: *const u8,
+        table_len: usize,
+        from: usize,
+        out: *mut u64,
+        out_len: usize,
+    ) -> usize;
+    fn loadplan_rels(
+        class_: u8,
+        order: u8,
+        table: *const u8,
+        table_len: usize,
+        from: usize,
+        out: *mut u64,
+        out_len: usize,
+    ) -> usize;
+    fn loadplan_relas(
+        class_: u8,
+        order: u8,
+        table: *const u8,
+        table_len: usize,
+        from: usize,
+        out: *mut u64,
+        out_len: usize,
+    ) -> usize;
+    fn loadplan_dyns(
+        class_: u8,
+        order: u8,
+        table: *const u8,
+        table_len: usize,
+        from: usize,
+        out: *mut u64,
+        out_len: usize,
+    ) -> usize;
 
     fn loadplan_string(table: *const u8, table_len: usize, offset: usize, out: &mut [u64; 2]) -> u32;
     fn loadplan_string_utf8(table: *const u8, table_len: usize, offset: usize, out: &mut [u64; 2]) -> u32;
@@ -241,7 +347,14 @@ pub fn plan(file: &[u8], window_start: u64, window_length: u64, table: &mut [u8]
 }
 
 /// Carries the first `records` records of `table` out over `memory`; 0, or the number of the refusal.
-pub fn carry_out(file: &[u8], window_start: u64, window_length: u64, table: &[u8], records: u64, memory: &mut [u8]) -> u32 {
+pub fn carry_out(
+    file: &[u8],
+    window_start: u64,
+    window_length: u64,
+    table: &[u8],
+    records: u64,
+    memory: &mut [u8],
+) -> u32 {
     // SAFETY: each pointer and the length behind it are one slice's.
     unsafe {
         loadplan_carry_out(

@@ -1,0 +1,4 @@
+-- The crate's laws, a file each.
+-- Assumes nothing.
+pub mod Row
+pub mod Turns
