@@ -1,5 +1,5 @@
 // The sample of document 01, section 8: its plan, the memory after it is carried out over bytes that are all aa hex, and the
-// refusals of the sample with one byte or the window changed. A refusal must leave the table and the memory as they were.
+// refusals of the sample with one byte or the window changed; besides, a window that ends at 2^64, and a 32-bit file. A refusal must leave the table and the memory as they were.
 ghost use Prim.Native.Nat.{_<_, _≤_};
 use libc::STDOUT_FILENO;
 use load_plan::Answer;
@@ -135,12 +135,13 @@ fn wrong(f: &[u8; 192], m: &[u8; 8192]) -> usize {
     n
 }
 
-fn loads() {
-    let f = sample();
+// A file that is loaded: the answer, the records, how many bytes of the table and the window are not as they should be.
+fn loaded(name: &[u8], f: &[u8; 192], start: u64) {
     let mut table = [238u8; 100];
     let mut m = [170u8; 8192];
-    let a = load_image::load(&f, 4194304, 8192, &mut table, &mut m);
-    say(b"window 400000 to 402000: ");
+    let a = load_image::load(f, start, 8192, &mut table, &mut m);
+    say(name);
+    say(b": ");
     tell(a);
     say(b"\n");
     show(&table, 0);
@@ -148,7 +149,7 @@ fn loads() {
     say(b"bytes of the table behind the records that changed: ");
     say_decimal(others(&table, 96, 238) as u64);
     say(b"\nbytes of the window that are not as the document says: ");
-    say_decimal(wrong(&f, &m) as u64);
+    say_decimal(wrong(f, &m) as u64);
     say(b" of 8192\nthe data: ");
     say(&m[4280..4288]);
 }
@@ -184,8 +185,33 @@ fn narrow() {
     refused(b"window 400000 to 401000", &f, 4096, &mut m);
 }
 
+// The sample as a file of type 3 with its addresses from 0 on, in the last two pages there are.
+fn top() {
+    let mut f = sample();
+    f[16] = 3;
+    f[26] = 0;
+    f[82] = 0;
+    f[138] = 0;
+    loaded(b"type 3 in the last two pages", &f, 18446744073709543424);
+}
+
+// A 32-bit file, highest byte first, of one segment.
+fn big() {
+    let f =
+        b"\x7fELF\x01\x02\x01\x00\x00\x00\x00\x00\x00\x00\x00\x00\x00\x02\x00\x14\x00\x00\x00\x01\x10\x00\x00\x54\x00\x00\x00\x34\x00\x00\x00\x00\x00\x00\x00\x00\x00\x34\x00\x20\x00\x01\x00\x28\x00\x00\x00\x00\x00\x00\x00\x01\x00\x00\x00\x00\x10\x00\x00\x00\x10\x00\x00\x00\x00\x00\x00\x58\x00\x00\x00\x58\x00\x00\x00\x05\x00\x00\x10\x00\x4e\x80\x00\x20";
+    let mut table = [238u8; 100];
+    let a = load_plan::plan(f, 268435456, 4096, &mut table);
+    say(b"32-bit, highest byte first: ");
+    tell(a);
+    say(b"\n");
+    show(&table, 0);
+}
+
 fn main() {
-    loads();
+    let f = sample();
+    loaded(b"window 400000 to 402000", &f, 4194304);
+    top();
+    big();
     narrow();
     changed(b"byte 7c from 06 to 07", 124, 7);
     changed(b"byte 98 from 08 to 19", 152, 25);
