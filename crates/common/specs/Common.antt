@@ -3,6 +3,8 @@
 -- hashIn e o t               a hash table t that starts at o of the file, from its header to the end of its chains
 -- hashOf e s o n             the same of the n bytes at o
 -- collected s elf c h        what a section with the header h adds
+-- symbolsBy c e t len h      the symbols that the header h says, in a file of len bytes with the section headers t
+-- tableBy c e s h            the dynamic entries, else the hash table, that it says
 -- stepOf s elf c i           what section i adds
 -- belowOf s elf k            what the sections before the k-th give
 -- finished s elf c           without a dynamic section, the first segment of type 2
@@ -16,6 +18,7 @@ use lib.Dec.{eqb, leb}
 use Rattle.endian.specs.Range.{answer}
 use Rattle.endian.specs.Place.{sizeOf, section-header}
 use Rattle.endian.specs.declared.Order.{Order}
+use Rattle.endian.specs.declared.Class.{Class}
 use Rattle.parse.specs.Entry.{countOf, rangeOf, rangeAt}
 use Rattle.parse.specs.declared.GotRange.{GotRange}
 use Rattle.parse.specs.declared.GotRange.the-variants as range
@@ -31,7 +34,7 @@ use Rattle.elf_bytes.specs.declared.GotTable.{GotTable}
 use Rattle.elf_bytes.specs.declared.GotTable.the-variants as table
 use Rattle.elf_bytes.specs.declared.Opened.{Opened}
 use Rattle.elf_bytes.specs.declared.Opened.the-variants as opened
-use Rattle.contents.specs.Contents.{partOf, sectionIn, symbolsIn, dynamicIn}
+use Rattle.contents.specs.Contents.{partOf, sectionIn, symbolsIn, symbolsAt, dynamicIn}
 use Rattle.contents.specs.declared.Symbols.{Symbols}
 use Rattle.contents.specs.declared.Symbols.the-variants as symbols
 use Rattle.contents.specs.declared.GotSymbols.{GotSymbols}
@@ -87,6 +90,13 @@ collected s elf c h =
     (cond (eqb (h .kind) 6) (withDynamic c (tableOf (dynamicIn (elf .class) (length s) (h .kind) (h .offset) (h .size) (h .entsize))))
     (cond (eqb (h .kind) 5) (withHash c (hashOf (elf .order) s (h .offset) (h .size)))
     (Is c))))
+
+abbrev pub symbolsBy : Class → Order → List ℕ → ℕ → SectionHeader → GotSymbols
+symbolsBy c e t len h = symbolsAt c e t len (h .offset) (h .size) (h .link) (h .entsize)
+
+abbrev pub tableBy : Class → Order → List ℕ → SectionHeader → GotTable
+tableBy c e s h =
+    cond (eqb (h .kind) 6) (tableOf (dynamicIn c (length s) (h .kind) (h .offset) (h .size) (h .entsize))) (hashOf e s (h .offset) (h .size))
 
 abbrev pub collectedFrom : List ℕ → Elf → Common → GotSectionHeader → GotCommon
 collectedFrom s elf c (header.Refused f) = Is c

@@ -1,23 +1,26 @@
 // The common data of a file in one walk over its sections: both symbol tables, the dynamic entries, the hash table.
 // Later sections replace earlier ones, and any fault among them is the answer.
 ghost use mathlib.Core.Path.{_≡_};
-ghost use Prim.Native.Nat.{_+_, _^_, _<_};
+ghost use Prim.Native.Nat.{_+_, _^_, _≤_, _<_};
 ghost use lib.ListN.{length};
+ghost use Rattle.endian.specs.Place.{sizeOf, section-header};
+ghost use Rattle.parse.specs.Entry.{countOf};
+ghost use Rattle.section.specs.Layout.{sectionAt};
 ghost use Rattle.elf_bytes.specs.Open.{Whole};
-ghost use Rattle.common.specs.Common.{withSymtab, withDynsym, withDynamic, withHash, hashIn, hashOf, noCommon, collected, stepOf, sectionsOf, belowOf, finished, commonIn, commonOf};
+ghost use Rattle.contents.specs.Contents.{partOf};
+ghost use Rattle.common.specs.Common.{commonWith, withDynamic, hashIn, hashOf, symbolsBy, tableBy, sectionsOf, belowOf, finished, commonIn, commonOf};
 use contents::GotSymbols;
 use contents::Symbols;
 use elf_bytes::Elf;
 use elf_bytes::GotTable;
 use elf_bytes::Opened;
 use elf_bytes::Table;
+use endian::Class;
 use endian::Fault;
 use endian::Order;
 use hash::GotHead;
 use parse::GotRange;
 use parse::Range;
-use section::GotSectionHeader;
-use section::SectionHeader;
 
 // A file's symbol tables of types 2 and 11, its dynamic entries, and its hash table from the header to the end of the chains.
 pub struct Common {
@@ -30,44 +33,6 @@ pub struct Common {
 pub enum GotCommon {
     Is(Common),
     Refused(Fault),
-}
-
-fn with_symtab(c: Common, g: GotSymbols) -> GotCommon
-    ensures { λ r. ⌜ r ≡ withSymtab c g ⌝ }
-{
-    match g {
-        GotSymbols::Refused(f) => GotCommon::Refused(f),
-        GotSymbols::Is(x) => {
-            let dynsym = c.dynsym;
-            let dynamic = c.dynamic;
-            let hash = c.hash;
-            GotCommon::Is(Common {
-                symtab: x,
-                dynsym: dynsym,
-                dynamic: dynamic,
-                hash: hash,
-            })
-        }
-    }
-}
-
-fn with_dynsym(c: Common, g: GotSymbols) -> GotCommon
-    ensures { λ r. ⌜ r ≡ withDynsym c g ⌝ }
-{
-    match g {
-        GotSymbols::Refused(f) => GotCommon::Refused(f),
-        GotSymbols::Is(x) => {
-            let symtab = c.symtab;
-            let dynamic = c.dynamic;
-            let hash = c.hash;
-            GotCommon::Is(Common {
-                symtab: symtab,
-                dynsym: x,
-                dynamic: dynamic,
-                hash: hash,
-            })
-        }
-    }
 }
 
 fn with_dynamic(c: Common, g: GotTable) -> GotCommon
@@ -84,25 +49,6 @@ fn with_dynamic(c: Common, g: GotTable) -> GotCommon
                 dynsym: dynsym,
                 dynamic: x,
                 hash: hash,
-            })
-        }
-    }
-}
-
-fn with_hash(c: Common, g: GotTable) -> GotCommon
-    ensures { λ r. ⌜ r ≡ withHash c g ⌝ }
-{
-    match g {
-        GotTable::Refused(f) => GotCommon::Refused(f),
-        GotTable::Is(x) => {
-            let symtab = c.symtab;
-            let dynsym = c.dynsym;
-            let dynamic = c.dynamic;
-            GotCommon::Is(Common {
-                symtab: symtab,
-                dynsym: dynsym,
-                dynamic: dynamic,
-                hash: x,
             })
         }
     }
@@ -142,79 +88,100 @@ fn hash_of(order: Order, d: &[u8], offset: usize, size: usize) -> GotTable
     }
 }
 
-// What a section adds.
-fn collect(elf: Elf, d: &[u8], c: Common, h: SectionHeader) -> GotCommon
-    requires { ⌜ Whole (now d) elf ⌝ }
-    ensures { λ r. ⌜ r ≡ collected (now (d .entry)) elf c h ⌝ }
+// The symbols that the section header at o of the table t says.
+fn symbols_of(class: Class, order: Order, t: &[u8], d: &[u8], o: usize) -> GotSymbols
+    requires { ⌜ o + sizeOf section-header class ≤ length (now t) ⌝ }
+    ensures { λ r. ⌜ r ≡ symbolsBy class order (now (t .entry)) (length (now (d .entry))) (sectionAt class order (now (t .entry)) o) ⌝ }
 {
-    let offset = h.offset as usize;
-    let size = h.size as usize;
-    let entsize = h.entsize as usize;
-    let kind = h.kind;
-    if kind == 2 {
-        return with_symtab(
-            c,
-            contents::symbols_in(elf, d, offset, size, lookup::wide(h.link), entsize),
-        );
-    }
-    if kind == 11 {
-        return with_dynsym(
-            c,
-            contents::symbols_in(elf, d, offset, size, lookup::wide(h.link), entsize),
-        );
-    }
+    let x = section::extent_in(class, order, t, o);
+    contents::symbols_at(
+        class,
+        order,
+        t,
+        d,
+        x.offset as usize,
+        x.size as usize,
+        lookup::wide(x.link),
+        x.entsize as usize,
+    )
+}
+
+// The dynamic entries (type 6), else the hash table, that it says.
+fn table_of(class: Class, order: Order, t: &[u8], d: &[u8], kind: u32, o: usize) -> GotTable
+    requires { ⌜ o + sizeOf section-header class ≤ length (now t) ⌝ ∗ ⌜ kind ≡ sectionAt class order (now t) o .kind ⌝ }
+    ensures { λ r. ⌜ r ≡ tableBy class order (now (d .entry)) (sectionAt class order (now (t .entry)) o) ⌝ }
+{
+    let x = section::extent_in(class, order, t, o);
+    let offset = x.offset as usize;
+    let size = x.size as usize;
     if kind == 6 {
-        let class = elf.class;
-        return with_dynamic(
-            c,
-            lookup::table_of(contents::dynamic_in(class, d, kind, offset, size, entsize)),
-        );
+        return lookup::table_of(contents::dynamic_in(
+            class,
+            d,
+            kind,
+            offset,
+            size,
+            x.entsize as usize,
+        ));
     }
-    if kind == 5 {
-        let order = elf.order;
-        return with_hash(c, hash_of(order, d, offset, size));
-    }
-    GotCommon::Is(c)
+    hash_of(order, d, offset, size)
 }
 
-// What section i adds: nothing where its header can't be read.
-fn step(elf: Elf, d: &[u8], c: Common, i: usize) -> GotCommon
-    requires { ⌜ Whole (now d) elf ⌝ }
-    ensures { λ r. ⌜ r ≡ stepOf (now (d .entry)) elf c i ⌝ }
+// What the sections of the table t add. Most add nothing, so a section's type is looked at first; the four parts are kept
+// apart, so that a section that adds one copies no other.
+fn gather_in(elf: Elf, r: Range, d: &[u8], t: &[u8]) -> GotCommon
+    requires { ⌜ elf .sections ≡ Table.At r ⌝ ∗ ⌜ now t ≡ partOf (now d) r ⌝ }
+    ensures { λ x. ⌜ x ≡ belowOf (now (d .entry)) elf (countOf (sizeOf section-header (elf .class)) (length (now (t .entry)))) ⌝ }
 {
-    let g = contents::section_in(elf, d, i);
-    match g {
-        GotSectionHeader::Refused(_) => GotCommon::Is(c),
-        GotSectionHeader::Is(h) => collect(elf, d, c, h),
-    }
-}
-
-fn count(elf: Elf) -> usize
-    ensures { λ r. ⌜ r ≡ sectionsOf elf (elf .sections) ⌝ }
-{
-    let sections = elf.sections;
     let class = elf.class;
-    match sections {
-        Table::Absent => 0,
-        Table::At(r) => {
-            let from = r.from;
-            let to = r.to;
-            if from <= to {
-                return parse::count(section::size_of(class), to - from);
+    let size = section::size_of(class);
+    let n = parse::count(size, t.len());
+    let mut symtab = Symbols::Absent;
+    let mut dynsym = Symbols::Absent;
+    let mut dynamic = Table::Absent;
+    let mut hash = Table::Absent;
+    let mut i = 0;
+    while i < n {
+        let order = elf.order;
+        let kind = endian::u32_in(order, t, i * size + 4);
+        if (kind == 2) | (kind == 11) {
+            let g = symbols_of(class, order, t, d, i * size);
+            match g {
+                GotSymbols::Refused(f) => return GotCommon::Refused(f),
+                GotSymbols::Is(x) => {
+                    if kind == 2 {
+                        symtab = x;
+                    } else {
+                        dynsym = x;
+                    }
+                }
             }
-            0
+        } else if (kind == 6) | (kind == 5) {
+            let g = table_of(class, order, t, d, kind, i * size);
+            match g {
+                GotTable::Refused(f) => return GotCommon::Refused(f),
+                GotTable::Is(x) => {
+                    if kind == 6 {
+                        dynamic = x;
+                    } else {
+                        hash = x;
+                    }
+                }
+            }
         }
+        i += 1;
     }
+    GotCommon::Is(common_of(symtab, dynsym, dynamic, hash))
 }
 
-fn nothing() -> Common
-    ensures { λ r. ⌜ r ≡ noCommon ⌝ }
+fn common_of(symtab: Symbols, dynsym: Symbols, dynamic: Table, hash: Table) -> Common
+    ensures { λ r. ⌜ r ≡ commonWith symtab dynsym dynamic hash ⌝ }
 {
     Common {
-        symtab: Symbols::Absent,
-        dynsym: Symbols::Absent,
-        dynamic: Table::Absent,
-        hash: Table::Absent,
+        symtab: symtab,
+        dynsym: dynsym,
+        dynamic: dynamic,
+        hash: hash,
     }
 }
 
@@ -223,22 +190,20 @@ fn gather(elf: Elf, d: &[u8]) -> GotCommon
     requires { ⌜ Whole (now d) elf ⌝ }
     ensures { λ r. ⌜ r ≡ belowOf (now (d .entry)) elf (sectionsOf elf (elf .sections)) ⌝ }
 {
-    let n = count(elf);
-    let mut c = nothing();
-    let mut i = 0;
-    while i < n {
-        let g = step(elf, d, c, i);
-        match g {
-            GotCommon::Refused(f) => {
-                return GotCommon::Refused(f);
-            }
-            GotCommon::Is(x) => {
-                c = x;
-            }
+    let sections = elf.sections;
+    match sections {
+        Table::Absent => GotCommon::Is(common_of(
+            Symbols::Absent,
+            Symbols::Absent,
+            Table::Absent,
+            Table::Absent,
+        )),
+        Table::At(r) => {
+            let from = r.from;
+            let to = r.to;
+            gather_in(elf, r, d, &d[from..to])
         }
-        i += 1;
     }
-    GotCommon::Is(c)
 }
 
 // Without a dynamic section, the first segment of type 2.

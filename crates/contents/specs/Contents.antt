@@ -5,6 +5,7 @@
 -- typedOf len want kind o n      as strings, rel, rela: the type must be the one wanted (8)
 -- dynamicIn, dynamicOf           as dynamic: type 6 (8), the entry size (7)
 -- symbolsWith, symbolsIn, symbolsOf   as symbols, with strings from the section that the link field names
+-- symbolsAt                      the same, of a table of section headers
 -- Assumes nothing.
 use Prim.Native.Nat.{ℕ, _+_, _-_, _*_}
 use mathlib.Core.Bool.{cond}
@@ -15,12 +16,13 @@ use Rattle.endian.specs.Range.{faulty, faultAt, answer}
 use Rattle.endian.specs.Place.{sizeOf, section-header, program-header, symbol, dynamic}
 use Rattle.endian.specs.declared.Fault.{Fault}
 use Rattle.endian.specs.declared.Class.{Class}
+use Rattle.endian.specs.declared.Order.{Order}
 use Rattle.parse.specs.Entry.{entryFault, rangeOf, rangeAt}
 use Rattle.parse.specs.declared.Range.{Range}
 use Rattle.parse.specs.declared.GotRange.{GotRange}
 use Rattle.parse.specs.declared.GotRange.the-variants as range
-use Rattle.section.specs.Layout.{sectionAt}
-use Rattle.section.specs.declared.SectionHeader.{SectionHeader}
+use Rattle.section.specs.Layout.{sectionAt, extentOf}
+use Rattle.section.specs.declared.Extent.{Extent}
 use Rattle.section.specs.declared.GotSectionHeader.{GotSectionHeader}
 use Rattle.section.specs.declared.GotSectionHeader.the-variants as header
 use Rattle.segment.specs.Layout.{segmentAt}
@@ -96,21 +98,26 @@ dynamicOf s kind o n entsize = dynamicAsked s kind o n entsize (openOf s)
 
 -- ---- symbols: the linked section's header (5, 12, 11), the entry size (7), the symbols' bytes, the strings' bytes (12, 11)
 
-abbrev pub tablesOf : ℕ → ℕ → SectionHeader → SymbolTable
-tablesOf o n h = record { symbols = rangeOf o n; strings = rangeOf (h .offset) (h .size) }
+abbrev pub tablesOf : ℕ → ℕ → Extent → SymbolTable
+tablesOf o n x = record { symbols = rangeOf o n; strings = rangeOf (x .offset) (x .size) }
 
-unfoldable pub symbolsWith : Class → ℕ → ℕ → ℕ → ℕ → SectionHeader → GotSymbols
-symbolsWith c len o n entsize h =
+unfoldable pub symbolsWith : Class → ℕ → ℕ → ℕ → ℕ → Extent → GotSymbols
+symbolsWith c len o n entsize x =
     cond (eqb entsize (sizeOf symbol c))
-    (answer (faultAt len o n) (answer (faultAt len (h .offset) (h .size)) (got.Is (symbols.At (tablesOf o n h))) got.Refused) got.Refused)
+    (answer (faultAt len o n) (answer (faultAt len (x .offset) (x .size)) (got.Is (symbols.At (tablesOf o n x))) got.Refused) got.Refused)
     (got.Refused (faulty 7))
 
 abbrev pub symbolsFrom : Class → ℕ → ℕ → ℕ → ℕ → GotSectionHeader → GotSymbols
 symbolsFrom c len o n entsize (header.Refused f) = got.Refused f
-symbolsFrom c len o n entsize (header.Is h) = symbolsWith c len o n entsize h
+symbolsFrom c len o n entsize (header.Is h) = symbolsWith c len o n entsize (extentOf h)
 
 unfoldable pub symbolsIn : List ℕ → Elf → ℕ → ℕ → ℕ → ℕ → GotSymbols
 symbolsIn s elf o n link entsize = symbolsFrom (elf .class) (length s) o n entsize (sectionIn s elf link)
+
+abbrev pub symbolsAt : Class → Order → List ℕ → ℕ → ℕ → ℕ → ℕ → ℕ → GotSymbols
+symbolsAt c e t len o n link entsize =
+    answer (entryFault (sizeOf section-header c) (length t) link)
+    (symbolsWith c len o n entsize (extentOf (sectionAt c e t (link * sizeOf section-header c)))) got.Refused
 
 abbrev pub symbolsAsked : List ℕ → ℕ → ℕ → ℕ → ℕ → Opened → GotSymbols
 symbolsAsked s o n link entsize (opened.Refused f) = got.Refused f

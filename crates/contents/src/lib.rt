@@ -5,16 +5,17 @@ ghost use mathlib.Core.Path.{_≡_};
 ghost use lib.ListN.{length};
 ghost use Rattle.parse.specs.Entry.{rangeAt};
 ghost use Rattle.elf_bytes.specs.Open.{Whole};
-ghost use Rattle.contents.specs.Contents.{sectionIn, sectionOf, segmentOf, segmentIn, dataOf, typedOf, dynamicIn, dynamicOf, symbolsWith, symbolsIn, symbolsOf};
+ghost use Rattle.contents.specs.Contents.{sectionIn, sectionOf, segmentOf, segmentIn, dataOf, typedOf, dynamicIn, dynamicOf, symbolsWith, symbolsAt, symbolsIn, symbolsOf};
 use elf_bytes::Elf;
 use elf_bytes::Opened;
 use elf_bytes::Table;
 use endian::Class;
 use endian::Fault;
+use endian::Order;
 use parse::GotRange;
 use parse::Range;
+use section::Extent;
 use section::GotSectionHeader;
-use section::SectionHeader;
 use segment::GotProgramHeader;
 
 // Symbols and their strings.
@@ -167,14 +168,14 @@ pub fn dynamic_data(d: &[u8], kind: u32, offset: usize, size: usize, entsize: us
     }
 }
 
-// As symbols, with the header of the section that holds their strings: the entry size, the symbols' bytes, the strings' bytes.
+// As symbols, with the extent of the section that holds their strings: the entry size, the symbols' bytes, the strings' bytes.
 fn symbols_with(
     class: Class,
     d: &[u8],
     offset: usize,
     size: usize,
     entsize: usize,
-    strings: SectionHeader,
+    strings: Extent,
 ) -> GotSymbols
     ensures { λ r. ⌜ r ≡ symbolsWith class (length (now (d .entry))) offset size entsize strings ⌝ }
 {
@@ -203,7 +204,28 @@ fn symbols_with(
     GotSymbols::Refused(Fault { number: 7 })
 }
 
-// The linked section's header comes first, as it does in the Rust.
+// The linked section's header, entry `link` of the section table t, comes first, as it does in the Rust.
+pub fn symbols_at(
+    class: Class,
+    order: Order,
+    t: &[u8],
+    d: &[u8],
+    offset: usize,
+    size: usize,
+    link: usize,
+    entsize: usize,
+) -> GotSymbols
+    ensures { λ r. ⌜ r ≡ symbolsAt class order (now (t .entry)) (length (now (d .entry))) offset size link entsize ⌝ }
+{
+    let f = section::fault_in(class, t.len(), link);
+    if f.number == 0 {
+        let at = link * section::size_of(class);
+        let strings = section::extent_in(class, order, t, at);
+        return symbols_with(class, d, offset, size, entsize, strings);
+    }
+    GotSymbols::Refused(f)
+}
+
 pub fn symbols_in(
     elf: Elf,
     d: &[u8],
@@ -215,11 +237,16 @@ pub fn symbols_in(
     requires { ⌜ Whole (now d) elf ⌝ }
     ensures { λ r. ⌜ r ≡ symbolsIn (now (d .entry)) elf offset size link entsize ⌝ }
 {
+    let sections = elf.sections;
     let class = elf.class;
-    let g = section_in(elf, d, link);
-    match g {
-        GotSectionHeader::Refused(f) => GotSymbols::Refused(f),
-        GotSectionHeader::Is(strings) => symbols_with(class, d, offset, size, entsize, strings),
+    let order = elf.order;
+    match sections {
+        Table::Absent => GotSymbols::Refused(Fault { number: 5 }),
+        Table::At(r) => {
+            let from = r.from;
+            let to = r.to;
+            symbols_at(class, order, &d[from..to], d, offset, size, link, entsize)
+        }
     }
 }
 

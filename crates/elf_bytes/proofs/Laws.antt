@@ -1,4 +1,5 @@
--- The laws of opening: a table without a fault lies in the file, and so do the tables of every opened file.
+-- The laws of opening: the outline of a header says all that is asked of it, a table without a fault lies in the file, and so do the
+-- tables of every opened file.
 -- Assumes nothing.
 use Prim.Native.Nat.{ℕ, _+_, _*_, _^_, _≤_, _<_}
 use native.Mathlib.Omega.{arith}
@@ -17,9 +18,11 @@ use Rattle.endian.specs.declared.Order.{Order}
 use Rattle.endian.specs.declared.Class.{Class}
 use Rattle.endian.proofs.Laws.{faultless}
 use Rattle.section.specs.Layout.{sectionAt}
-use Rattle.file.specs.Layout.{headerAt}
-use Rattle.file.specs.Open.{identOf}
+use Rattle.file.specs.Layout.{headerAt, outlineOf}
+use Rattle.file.specs.Open.{identOf, headerIn, headerOf}
+use Rattle.file.specs.declared.GotHeader.the-variants as header
 use Rattle.file.specs.declared.FileHeader.{FileHeader}
+use Rattle.file.specs.declared.Outline.{Outline}
 use Rattle.file.specs.declared.Ident.{Ident}
 use Rattle.file.specs.declared.Ident.the-variants as ident
 use Rattle.elf_bytes.specs.Open.{zeroFault, tableFault, tableIn, sectionCount, segmentCount, sectionsIn, segmentsIn, withTables, openWith, openIn, openOf, elfOf, Tabled, Whole}
@@ -32,6 +35,16 @@ use Rattle.elf_bytes.specs.declared.GotCount.{GotCount}
 use Rattle.elf_bytes.specs.declared.GotCount.the-variants as count
 use Rattle.elf_bytes.specs.declared.Opened.{Opened}
 use Rattle.elf_bytes.specs.declared.Opened.the-variants as answer-is
+
+-- what opening answers, by the outline of the header
+module _ (c : Class) (e : Order) (s : List ℕ) (x : Outline) (q : x ≡ outlineOf (headerAt c e s)) where
+  pub outlined : openWith s (headerAt c e s) ≡ withTables (headerAt c e s) (sectionsIn c e s (x .shoff) (x .shnum) (x .shentsize)) (segmentsIn c e s (x .shoff) (x .phoff) (x .phnum) (x .phentsize))
+  unfolding openWith headerAt
+  outlined = ap (λ (y : Outline). withTables (headerAt c e s) (sectionsIn c e s (y .shoff) (y .shnum) (y .shentsize)) (segmentsIn c e s (y .shoff) (y .phoff) (y .phnum) (y .phentsize))) (sym q)
+
+  pub outlined-elf : (a b : Table) → _≡_ {A = Elf} (record { class = c; order = e; kind = x .kind; entry = x .entry; names = x .shstrndx; sections = a; segments = b }) (elfOf (headerAt c e s) a b)
+  unfolding headerAt
+  outlined-elf a b = λ i. record { class = c; order = e; kind = q i .kind; entry = q i .entry; names = q i .shstrndx; sections = a; segments = b }
 
 -- a section header 0 that can be read lies in the file
 pub zero-whole : (c : Class) (len o : ℕ) (g : Fault) → g ≡ zeroFault c len o → g .number ≡ 0 → o + sizeOf section-header c ≤ len
@@ -117,3 +130,41 @@ opened s elf e = identified (identOf s) e
 -- the bounds of a table that is there
 pub tabled-at : (s : List ℕ) (t : Table) (r : Range) → Tabled s t → t ≡ At r → (r .from ≤ r .to) × (r .to ≤ length s)
 tabled-at s t r h e = rw e at h
+
+-- an opened file has a whole header, read in its class and order; a file that is refused for its header is refused for the same reason
+tables-of : (h : FileHeader) (a b : GotTable) (elf : Elf) → withTables h a b ≡ answer-is.Is elf → (elf .class ≡ h .class) × (elf .order ≡ h .order)
+tables-of h (table.Refused f) b elf e = let z : _≡_ {A = ℕ} 0 1 = cc in absurd (omega arith)
+tables-of h (table.Is a) (table.Refused f) elf e = let z : _≡_ {A = ℕ} 0 1 = cc in absurd (omega arith)
+tables-of h (table.Is a) (table.Is b) elf e = let z : elfOf h a b ≡ elf = cc in rw (← z) (refl, refl)
+
+opened-in : (c : Class) (e : Order) (s : List ℕ) (elf : Elf) → openWith s (headerAt c e s) ≡ answer-is.Is elf → (elf .class ≡ c) × (elf .order ≡ e)
+unfolding openWith headerAt
+opened-in c e s elf q =
+    let h = headerAt c e s in
+    tables-of h (sectionsIn c e s (h .shoff) (h .shnum) (h .shentsize)) (segmentsIn c e s (h .shoff) (h .phoff) (h .phnum) (h .phentsize)) elf q
+
+pub opened-header : (s : List ℕ) (elf : Elf) → openOf s ≡ answer-is.Is elf
+    → (sizeOf file-header (elf .class) ≤ length s) × (headerOf s ≡ header.Is (headerAt (elf .class) (elf .order) s))
+unfolding openOf headerOf
+opened-header s elf e = identified (identOf s) e
+  where
+    pick : (c : Class) (o : Order) (b : Bool) → leb (sizeOf file-header c) (length s) ≡ b → cond b (openWith s (headerAt c o s)) (answer-is.Refused (faulty 11)) ≡ answer-is.Is elf
+        → (sizeOf file-header (elf .class) ≤ length s) × (cond b (header.Is (headerAt c o s)) (header.Refused (faulty 11)) ≡ header.Is (headerAt (elf .class) (elf .order) s))
+    pick c o true p q = let k = opened-in c o s elf q in rw (k .0, k .1) (leb-true _ _ p, refl)
+    pick c o false p q = let z : _≡_ {A = ℕ} 0 1 = cc in absurd (omega arith)
+
+    identified : (i : Ident) → openIn s i ≡ answer-is.Is elf → (sizeOf file-header (elf .class) ≤ length s) × (headerIn s i ≡ header.Is (headerAt (elf .class) (elf .order) s))
+    identified (ident.Refused f) q = let z : _≡_ {A = ℕ} 0 1 = cc in absurd (omega arith)
+    identified (ident.Is c o) q = pick c o (leb (sizeOf file-header c) (length s)) refl q
+
+pub refused-header : (s : List ℕ) (f g : Fault) → openOf s ≡ answer-is.Refused f → headerOf s ≡ header.Refused g → g ≡ f
+unfolding openOf headerOf
+refused-header s f g e h = identified (identOf s) e h
+  where
+    pick : (w : Opened) (x : FileHeader) (b : Bool) → cond b w (answer-is.Refused (faulty 11)) ≡ answer-is.Refused f → cond b (header.Is x) (header.Refused (faulty 11)) ≡ header.Refused g → g ≡ f
+    pick w x true p q = let z : _≡_ {A = ℕ} 0 1 = cc in absurd (omega arith)
+    pick w x false p q = cc
+
+    identified : (i : Ident) → openIn s i ≡ answer-is.Refused f → headerIn s i ≡ header.Refused g → g ≡ f
+    identified (ident.Refused f) p q = cc
+    identified (ident.Is c o) p q = pick _ _ (leb (sizeOf file-header c) (length s)) p q

@@ -159,7 +159,7 @@ fn open_in(class: Class, order: Order, d: &[u8]) -> Opened
     requires { ⌜ sizeOf file-header class ≤ length (now d) ⌝ }
     ensures { λ r. ⌜ r ≡ openWith (now (d .entry)) (headerAt class order (now (d .entry))) ⌝ }
 {
-    let h = file::header_in(class, order, d);
+    let h = file::outline_in(class, order, d);
     let shoff = h.shoff as usize;
     let phoff = h.phoff as usize;
     let a = sections_in(class, order, d, shoff, h.shnum, h.shentsize);

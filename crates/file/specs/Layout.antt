@@ -2,6 +2,7 @@
 -- placeOf c f       the place of the field f in a header of the class c
 -- fields            every field, in the order of the places
 -- headerAt c e s    the header that a file's bytes s say, in the class c and the order e
+-- outlineOf h       what opening asks of a header
 -- Assumes nothing.
 use Prim.Native.Nat.{ℕ}
 use mathlib.Core.List.{List, [], _∷_}
@@ -12,6 +13,7 @@ use Rattle.endian.specs.declared.Order.{Order}
 use Rattle.endian.specs.declared.Class.{Class}
 use Rattle.endian.specs.declared.Class.the-variants.{Elf32, Elf64}
 use Rattle.file.specs.declared.FileHeader.{FileHeader}
+use Rattle.file.specs.declared.Outline.{Outline}
 
 -- the fields behind the identification
 pub data Field : Type 0 where
@@ -86,4 +88,17 @@ headerAt c e s = record {
   shentsize = fieldOf c e s e-shentsize;
   shnum = fieldOf c e s e-shnum;
   shstrndx = fieldOf c e s e-shstrndx;
+}
+
+abbrev pub outlineOf : FileHeader → Outline
+outlineOf h = record {
+  kind = h .kind;
+  entry = h .entry;
+  phoff = h .phoff;
+  shoff = h .shoff;
+  phentsize = h .phentsize;
+  phnum = h .phnum;
+  shentsize = h .shentsize;
+  shnum = h .shnum;
+  shstrndx = h .shstrndx;
 }

@@ -4,7 +4,7 @@ ghost use mathlib.Core.Path.{_≡_};
 ghost use Prim.Native.Nat.{_+_, _≤_};
 ghost use lib.ListN.{length, getD};
 ghost use Rattle.endian.specs.Place.{sizeOf, file-header};
-ghost use Rattle.file.specs.Layout.{headerAt};
+ghost use Rattle.file.specs.Layout.{headerAt, outlineOf};
 ghost use Rattle.file.specs.Open.{identOf, headerOf, orderOf};
 use endian::Class;
 use endian::Fault;
@@ -28,6 +28,19 @@ pub struct FileHeader {
     pub shoff: u64,
     pub flags: u32,
     pub ehsize: u16,
+    pub phentsize: u16,
+    pub phnum: u16,
+    pub shentsize: u16,
+    pub shnum: u16,
+    pub shstrndx: u16,
+}
+
+// What opening asks of a header: the file's type and entry point, its two tables, and which section holds the names.
+pub struct Outline {
+    pub kind: u16,
+    pub entry: u64,
+    pub phoff: u64,
+    pub shoff: u64,
     pub phentsize: u16,
     pub phnum: u16,
     pub shentsize: u16,
@@ -61,24 +74,16 @@ pub fn size_of(class: Class) -> usize
     }
 }
 
-// The header of a 32-bit file.
-fn header32(order: Order, d: &[u8]) -> FileHeader
+// Of a 32-bit file: the outline, the header.
+fn outline32(order: Order, d: &[u8]) -> Outline
     requires { ⌜ 52 ≤ length (now d) ⌝ }
-    ensures { λ r. ⌜ r ≡ headerAt Class.Elf32 order (now (d .entry)) ⌝ }
+    ensures { λ r. ⌜ r ≡ outlineOf (headerAt Class.Elf32 order (now (d .entry))) ⌝ }
 {
-    FileHeader {
-        class: Class::Elf32,
-        order: order,
-        osabi: d[7],
-        abiversion: d[8],
+    Outline {
         kind: endian::u16_in(order, d, 16),
-        machine: endian::u16_in(order, d, 18),
-        version: endian::u32_in(order, d, 20),
         entry: endian::u32_in(order, d, 24) as u64,
         phoff: endian::u32_in(order, d, 28) as u64,
         shoff: endian::u32_in(order, d, 32) as u64,
-        flags: endian::u32_in(order, d, 36),
-        ehsize: endian::u16_in(order, d, 40),
         phentsize: endian::u16_in(order, d, 42),
         phnum: endian::u16_in(order, d, 44),
         shentsize: endian::u16_in(order, d, 46),
@@ -87,29 +92,73 @@ fn header32(order: Order, d: &[u8]) -> FileHeader
     }
 }
 
-// The header of a 64-bit file.
-fn header64(order: Order, d: &[u8]) -> FileHeader
-    requires { ⌜ 64 ≤ length (now d) ⌝ }
-    ensures { λ r. ⌜ r ≡ headerAt Class.Elf64 order (now (d .entry)) ⌝ }
+fn header32(order: Order, d: &[u8]) -> FileHeader
+    requires { ⌜ 52 ≤ length (now d) ⌝ }
+    ensures { λ r. ⌜ r ≡ headerAt Class.Elf32 order (now (d .entry)) ⌝ }
 {
+    let x = outline32(order, d);
     FileHeader {
-        class: Class::Elf64,
+        class: Class::Elf32,
         order: order,
         osabi: d[7],
         abiversion: d[8],
-        kind: endian::u16_in(order, d, 16),
+        kind: x.kind,
         machine: endian::u16_in(order, d, 18),
         version: endian::u32_in(order, d, 20),
+        entry: x.entry,
+        phoff: x.phoff,
+        shoff: x.shoff,
+        flags: endian::u32_in(order, d, 36),
+        ehsize: endian::u16_in(order, d, 40),
+        phentsize: x.phentsize,
+        phnum: x.phnum,
+        shentsize: x.shentsize,
+        shnum: x.shnum,
+        shstrndx: x.shstrndx,
+    }
+}
+
+// Of a 64-bit file: the outline, the header.
+fn outline64(order: Order, d: &[u8]) -> Outline
+    requires { ⌜ 64 ≤ length (now d) ⌝ }
+    ensures { λ r. ⌜ r ≡ outlineOf (headerAt Class.Elf64 order (now (d .entry))) ⌝ }
+{
+    Outline {
+        kind: endian::u16_in(order, d, 16),
         entry: endian::u64_in(order, d, 24),
         phoff: endian::u64_in(order, d, 32),
         shoff: endian::u64_in(order, d, 40),
-        flags: endian::u32_in(order, d, 48),
-        ehsize: endian::u16_in(order, d, 52),
         phentsize: endian::u16_in(order, d, 54),
         phnum: endian::u16_in(order, d, 56),
         shentsize: endian::u16_in(order, d, 58),
         shnum: endian::u16_in(order, d, 60),
         shstrndx: endian::u16_in(order, d, 62),
+    }
+}
+
+fn header64(order: Order, d: &[u8]) -> FileHeader
+    requires { ⌜ 64 ≤ length (now d) ⌝ }
+    ensures { λ r. ⌜ r ≡ headerAt Class.Elf64 order (now (d .entry)) ⌝ }
+{
+    let x = outline64(order, d);
+    FileHeader {
+        class: Class::Elf64,
+        order: order,
+        osabi: d[7],
+        abiversion: d[8],
+        kind: x.kind,
+        machine: endian::u16_in(order, d, 18),
+        version: endian::u32_in(order, d, 20),
+        entry: x.entry,
+        phoff: x.phoff,
+        shoff: x.shoff,
+        flags: endian::u32_in(order, d, 48),
+        ehsize: endian::u16_in(order, d, 52),
+        phentsize: x.phentsize,
+        phnum: x.phnum,
+        shentsize: x.shentsize,
+        shnum: x.shnum,
+        shstrndx: x.shstrndx,
     }
 }
 
@@ -138,14 +187,36 @@ pub fn identify(d: &[u8]) -> Ident
     Ident::Refused(Fault { number: 2 })
 }
 
-// The header in a class and an order.
+// The outline and the header in a class and an order, which are told apart here, once for all fields.
+pub fn outline_in(class: Class, order: Order, d: &[u8]) -> Outline
+    requires { ⌜ sizeOf file-header class ≤ length (now d) ⌝ }
+    ensures { λ r. ⌜ r ≡ outlineOf (headerAt class order (now (d .entry))) ⌝ }
+{
+    match class {
+        Class::Elf32 => match order {
+            Order::Little => outline32(Order::Little, d),
+            Order::Big => outline32(Order::Big, d),
+        },
+        Class::Elf64 => match order {
+            Order::Little => outline64(Order::Little, d),
+            Order::Big => outline64(Order::Big, d),
+        },
+    }
+}
+
 pub fn header_in(class: Class, order: Order, d: &[u8]) -> FileHeader
     requires { ⌜ sizeOf file-header class ≤ length (now d) ⌝ }
     ensures { λ r. ⌜ r ≡ headerAt class order (now (d .entry)) ⌝ }
 {
     match class {
-        Class::Elf32 => header32(order, d),
-        Class::Elf64 => header64(order, d),
+        Class::Elf32 => match order {
+            Order::Little => header32(Order::Little, d),
+            Order::Big => header32(Order::Big, d),
+        },
+        Class::Elf64 => match order {
+            Order::Little => header64(Order::Little, d),
+            Order::Big => header64(Order::Big, d),
+        },
     }
 }
 

@@ -32,7 +32,7 @@ pub struct Planned {
 pub extern "C" fn loadplan_open(file: &[u8], out: &mut [u64; 23]) -> u32
     ensures { λ r. ⌜ Told (openedReply (headerOf (now (file .entry))) (openOf (now (file .entry)))) (now (out .entry)) (now (out .exit)) r ⌝ }
 {
-    replies::put_opened(file::header(file), elf_bytes::open(file), out)
+    replies::put_opened(elf_bytes::open(file), file, out)
 }
 
 #[no_mangle]

@@ -1,6 +1,7 @@
 // What crosses to C: the values of an answer in a lent array, or the number of a refusal and the array as it was.
 ghost use mathlib.Core.Path.{_≡_};
-ghost use Rattle.file.specs.Open.{orderOf};
+ghost use Rattle.file.specs.Open.{orderOf, headerOf};
+ghost use Rattle.elf_bytes.specs.Open.{openOf};
 ghost use Rattle.replies.specs.Reply.{Told, kindOf, classNumber, orderNumber, rangeReply, tableRow, tableReply, symbolsRow, symbolsReply, pairRow, pairReply, foundRow, foundReply, lookupReply, headReply, sectionReply, segmentReply, symbolReply, relReply, relaReply, dynReply, headRow, openedReply, joined, commonRow, commonReply};
 use common::Common;
 use common::GotCommon;
@@ -15,7 +16,6 @@ use endian::Class;
 use endian::Fault;
 use endian::Order;
 use file::FileHeader;
-use file::GotHeader;
 use file::Ident;
 use hash::GotHead;
 use hash::Lookup;
@@ -334,20 +334,25 @@ fn head_row(h: FileHeader, s: [u64; 3], p: [u64; 3]) -> [u64; 23]
     ]
 }
 
-pub fn put_opened(g: GotHeader, o: Opened, out: &mut [u64; 23]) -> u32
-    ensures { λ r. ⌜ Told (openedReply g o) (now (out .entry)) (now (out .exit)) r ⌝ }
+// The answer of opening d. The header is read again from d, in the class and the order that opening found.
+pub fn put_opened(o: Opened, d: &[u8], out: &mut [u64; 23]) -> u32
+    requires { ⌜ o ≡ openOf (now d) ⌝ }
+    ensures { λ r. ⌜ Told (openedReply (headerOf (now (d .entry))) (openOf (now (d .entry)))) (now (out .entry)) (now (out .exit)) r ⌝ }
 {
-    match g {
-        GotHeader::Refused(f) => f.number as u32,
-        GotHeader::Is(h) => match o {
-            Opened::Refused(f) => f.number as u32,
-            Opened::Is(elf) => {
-                let s = elf.sections;
-                let p = elf.segments;
-                *out = head_row(h, table_row(s), table_row(p));
-                0
-            }
-        },
+    match o {
+        Opened::Refused(f) => f.number as u32,
+        Opened::Is(elf) => {
+            let class = elf.class;
+            let order = elf.order;
+            let s = elf.sections;
+            let p = elf.segments;
+            *out = head_row(
+                file::header_in(class, order, d),
+                table_row(s),
+                table_row(p),
+            );
+            0
+        }
     }
 }
 

@@ -2,6 +2,7 @@
 -- placeOf c f      the place of the field f in an entry of the class c
 -- fields c         every field, in the order of the places
 -- sectionAt c e s o   the entry at o of the bytes s, in the class c and the order e
+-- extentOf h          of an entry: where its bytes stand, its link and its entry size
 -- Assumes nothing.
 use Prim.Native.Nat.{ℕ, _+_}
 use mathlib.Core.List.{List, [], _∷_}
@@ -10,6 +11,7 @@ use Rattle.endian.specs.declared.Order.{Order}
 use Rattle.endian.specs.declared.Class.{Class}
 use Rattle.endian.specs.declared.Class.the-variants.{Elf32, Elf64}
 use Rattle.section.specs.declared.SectionHeader.{SectionHeader}
+use Rattle.section.specs.declared.Extent.{Extent}
 
 pub data Field : Type 0 where
   sh-name : Field
@@ -63,3 +65,6 @@ sectionAt c e s o = record {
   addralign = fieldAt e (placeOf c sh-addralign) s o;
   entsize = fieldAt e (placeOf c sh-entsize) s o;
 }
+
+abbrev pub extentOf : SectionHeader → Extent
+extentOf h = record { offset = h .offset; size = h .size; link = h .link; entsize = h .entsize }

@@ -6,7 +6,7 @@ ghost use lib.ListN.{length};
 ghost use Rattle.endian.specs.Range.{answer};
 ghost use Rattle.endian.specs.Place.{sizeOf, section-header};
 ghost use Rattle.parse.specs.Entry.{entryFault};
-ghost use Rattle.section.specs.Layout.{sectionAt};
+ghost use Rattle.section.specs.Layout.{sectionAt, extentOf};
 use endian::Class;
 use endian::Fault;
 use endian::Order;
@@ -24,6 +24,14 @@ pub struct SectionHeader {
     pub entsize: u64,
 }
 
+// Where a section's bytes stand, and what they are entries of: what a walk over sections asks of most of them.
+pub struct Extent {
+    pub offset: u64,
+    pub size: u64,
+    pub link: u32,
+    pub entsize: u64,
+}
+
 pub enum GotSectionHeader {
     Is(SectionHeader),
     Refused(Fault),
@@ -38,21 +46,46 @@ pub fn size_of(class: Class) -> usize
     }
 }
 
+fn extent32(order: Order, t: &[u8], o: usize) -> Extent
+    requires { ⌜ o + 40 ≤ length (now t) ⌝ }
+    ensures { λ r. ⌜ r ≡ extentOf (sectionAt Class.Elf32 order (now (t .entry)) o) ⌝ }
+{
+    Extent {
+        offset: endian::u32_in(order, t, o + 16) as u64,
+        size: endian::u32_in(order, t, o + 20) as u64,
+        link: endian::u32_in(order, t, o + 24),
+        entsize: endian::u32_in(order, t, o + 36) as u64,
+    }
+}
+
+fn extent64(order: Order, t: &[u8], o: usize) -> Extent
+    requires { ⌜ o + 64 ≤ length (now t) ⌝ }
+    ensures { λ r. ⌜ r ≡ extentOf (sectionAt Class.Elf64 order (now (t .entry)) o) ⌝ }
+{
+    Extent {
+        offset: endian::u64_in(order, t, o + 24),
+        size: endian::u64_in(order, t, o + 32),
+        link: endian::u32_in(order, t, o + 40),
+        entsize: endian::u64_in(order, t, o + 56),
+    }
+}
+
 fn section32(order: Order, t: &[u8], o: usize) -> SectionHeader
     requires { ⌜ o + 40 ≤ length (now t) ⌝ }
     ensures { λ r. ⌜ r ≡ sectionAt Class.Elf32 order (now (t .entry)) o ⌝ }
 {
+    let x = extent32(order, t, o);
     SectionHeader {
         name: endian::u32_in(order, t, o),
         kind: endian::u32_in(order, t, o + 4),
         flags: endian::u32_in(order, t, o + 8) as u64,
         addr: endian::u32_in(order, t, o + 12) as u64,
-        offset: endian::u32_in(order, t, o + 16) as u64,
-        size: endian::u32_in(order, t, o + 20) as u64,
-        link: endian::u32_in(order, t, o + 24),
+        offset: x.offset,
+        size: x.size,
+        link: x.link,
         info: endian::u32_in(order, t, o + 28),
         addralign: endian::u32_in(order, t, o + 32) as u64,
-        entsize: endian::u32_in(order, t, o + 36) as u64,
+        entsize: x.entsize,
     }
 }
 
@@ -60,33 +93,57 @@ fn section64(order: Order, t: &[u8], o: usize) -> SectionHeader
     requires { ⌜ o + 64 ≤ length (now t) ⌝ }
     ensures { λ r. ⌜ r ≡ sectionAt Class.Elf64 order (now (t .entry)) o ⌝ }
 {
+    let x = extent64(order, t, o);
     SectionHeader {
         name: endian::u32_in(order, t, o),
         kind: endian::u32_in(order, t, o + 4),
         flags: endian::u64_in(order, t, o + 8),
         addr: endian::u64_in(order, t, o + 16),
-        offset: endian::u64_in(order, t, o + 24),
-        size: endian::u64_in(order, t, o + 32),
-        link: endian::u32_in(order, t, o + 40),
+        offset: x.offset,
+        size: x.size,
+        link: x.link,
         info: endian::u32_in(order, t, o + 44),
         addralign: endian::u64_in(order, t, o + 48),
-        entsize: endian::u64_in(order, t, o + 56),
+        entsize: x.entsize,
     }
 }
 
-// The entry at an offset, where it is whole.
+// The entry at an offset, where it is whole. Class and order are told apart here, once for all fields.
 pub fn section_in(class: Class, order: Order, t: &[u8], o: usize) -> SectionHeader
     requires { ⌜ o + sizeOf section-header class ≤ length (now t) ⌝ }
     ensures { λ r. ⌜ r ≡ sectionAt class order (now (t .entry)) o ⌝ }
 {
     match class {
-        Class::Elf32 => section32(order, t, o),
-        Class::Elf64 => section64(order, t, o),
+        Class::Elf32 => match order {
+            Order::Little => section32(Order::Little, t, o),
+            Order::Big => section32(Order::Big, t, o),
+        },
+        Class::Elf64 => match order {
+            Order::Little => section64(Order::Little, t, o),
+            Order::Big => section64(Order::Big, t, o),
+        },
     }
 }
 
-// The class is told apart first, so that the quotient in the test is of two constants.
-fn fault_in(class: Class, len: usize, i: usize) -> Fault
+// The extent of that entry, likewise.
+pub fn extent_in(class: Class, order: Order, t: &[u8], o: usize) -> Extent
+    requires { ⌜ o + sizeOf section-header class ≤ length (now t) ⌝ }
+    ensures { λ r. ⌜ r ≡ extentOf (sectionAt class order (now (t .entry)) o) ⌝ }
+{
+    match class {
+        Class::Elf32 => match order {
+            Order::Little => extent32(Order::Little, t, o),
+            Order::Big => extent32(Order::Big, t, o),
+        },
+        Class::Elf64 => match order {
+            Order::Little => extent64(Order::Little, t, o),
+            Order::Big => extent64(Order::Big, t, o),
+        },
+    }
+}
+
+// The fault of entry i. The class is told apart first, so that the quotient in the test is of two constants.
+pub fn fault_in(class: Class, len: usize, i: usize) -> Fault
     ensures { λ r. ⌜ r ≡ entryFault (sizeOf section-header class) len i ⌝ }
 {
     match class {

@@ -68,14 +68,20 @@ fn segment64(order: Order, t: &[u8], o: usize) -> ProgramHeader
     }
 }
 
-// The entry at an offset, where it is whole.
+// The entry at an offset, where it is whole. Class and order are told apart here, once for all fields.
 pub fn segment_in(class: Class, order: Order, t: &[u8], o: usize) -> ProgramHeader
     requires { ⌜ o + sizeOf program-header class ≤ length (now t) ⌝ }
     ensures { λ r. ⌜ r ≡ segmentAt class order (now (t .entry)) o ⌝ }
 {
     match class {
-        Class::Elf32 => segment32(order, t, o),
-        Class::Elf64 => segment64(order, t, o),
+        Class::Elf32 => match order {
+            Order::Little => segment32(Order::Little, t, o),
+            Order::Big => segment32(Order::Big, t, o),
+        },
+        Class::Elf64 => match order {
+            Order::Little => segment64(Order::Little, t, o),
+            Order::Big => segment64(Order::Big, t, o),
+        },
     }
 }
 

@@ -13,7 +13,8 @@ pub struct Dyn {
 }
 
 impl Dyn {
-    fn of(values: &[u64]) -> Self {
+    #[inline]
+    fn of(values: &[u64; 2]) -> Self {
         Dyn { d_tag: values[0] as i64, value: values[1] }
     }
 
@@ -28,4 +29,4 @@ impl Dyn {
     }
 }
 
-entry_of_a_table!(Dyn, 2 values, 8 or 16 bytes, dyn_, dyns);
+entry_of_a_table!(Dyn, 8 or 16 bytes, dyn_ of Dyn::of, dyns of Dyn::of: 2);

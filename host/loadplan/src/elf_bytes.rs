@@ -52,6 +52,7 @@ pub type SymbolsAndStrings<'data, E> = (SymbolTable<'data, E>, StringTable<'data
 impl<'data, E: EndianParse> ElfBytes<'data, E> {
     /// Opens a file. What is refused, and in which order, is in include/loadplan.h; a byte order that `E` does not read is
     /// refused with 3 before anything behind the identification is looked at.
+    #[inline(always)]
     pub fn minimal_parse(data: &'data [u8]) -> Result<Self, ParseError> {
         let values = sys::open(data).map_err(|refusal| refused_opening::<E>(data, refusal.into()))?;
         let endian = E::from_ei_data(values[1] as u8)?;
@@ -167,6 +168,7 @@ impl<'data, E: EndianParse> ElfBytes<'data, E> {
     }
 
     /// Symbol tables, dynamic entries and hash table, found in one walk; any fault among them is the answer.
+    #[inline(always)]
     pub fn find_common_data(&self) -> Result<CommonElfData<'data, E>, ParseError> {
         let found = sys::common(self.data)?;
         let (symtab, symtab_strs) = self.optional_symbols(&found[0..5])?.unzip();
@@ -179,11 +181,13 @@ impl<'data, E: EndianParse> ElfBytes<'data, E> {
         Ok(CommonElfData { symtab, symtab_strs, dynsyms, dynsyms_strs, dynamic, sysv_hash })
     }
 
+    #[inline]
     fn dynamic_entries(&self, bytes: &'data [u8]) -> DynamicTable<'data, E> {
         DynamicTable::new(self.ehdr.endianness, self.ehdr.class, bytes)
     }
 
     /// Symbols and strings from two ranges.
+    #[inline]
     fn symbols_and_strings(&self, found: &[u64]) -> Result<SymbolsAndStrings<'data, E>, ParseError> {
         let symbols = part(self.data, found[0], found[1])?;
         let strings = part(self.data, found[2], found[3])?;
@@ -191,6 +195,7 @@ impl<'data, E: EndianParse> ElfBytes<'data, E> {
     }
 
     /// The same behind a value that says whether they are there.
+    #[inline]
     fn optional_symbols(&self, found: &[u64]) -> Result<Option<SymbolsAndStrings<'data, E>>, ParseError> {
         match found[0] {
             0 => Ok(None),
@@ -201,6 +206,7 @@ impl<'data, E: EndianParse> ElfBytes<'data, E> {
 
 /// The refusal of a file that was not opened, for a caller who reads the orders of `E`: where the archive has got past the
 /// identification, an order that `E` does not read comes first.
+#[cold]
 fn refused_opening<E: EndianParse>(data: &[u8], refusal: ParseError) -> ParseError {
     let within_identification = data.len() < IDENTIFICATION
         || matches!(
@@ -217,6 +223,7 @@ fn refused_opening<E: EndianParse>(data: &[u8], refusal: ParseError) -> ParseErr
 }
 
 /// The bytes of a range behind a value that says whether it is there.
+#[inline]
 fn optional<'data>(data: &'data [u8], found: &[u64]) -> Result<Option<&'data [u8]>, ParseError> {
     match found[0] {
         0 => Ok(None),

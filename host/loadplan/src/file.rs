@@ -12,6 +12,7 @@ pub enum Class {
 
 impl Class {
     /// The archive's number for a class, which is the format's.
+    #[inline]
     pub(crate) fn number(self) -> u8 {
         match self {
             Class::ELF32 => abi::ELFCLASS32,
@@ -45,6 +46,7 @@ pub struct FileHeader<E: EndianParse> {
 
 impl<E: EndianParse> FileHeader<E> {
     /// The header from what the archive answers on opening; the order was tested by the caller.
+    #[inline]
     pub(crate) fn of(values: &[u64; 23], endianness: E) -> Self {
         FileHeader {
             class: if values[0] == u64::from(abi::ELFCLASS32) { Class::ELF32 } else { Class::ELF64 },

@@ -93,6 +93,7 @@ pub use parse::ParseError;
 
 /// The bytes of a range that the archive answered. It is proved to lie in the data; if it did not, this would be a refusal
 /// and never a panic.
+#[inline]
 fn part(data: &[u8], from: u64, to: u64) -> Result<&[u8], ParseError> {
     data.get(from as usize..to as usize).ok_or(ParseError::SliceReadError(parse::Details))
 }

@@ -127,49 +127,56 @@ impl core::error::Error for ParseError {}
 
 /// What the archive knows of a kind of entry. Its methods are called by tables and walks only.
 pub(crate) mod entry {
-    use super::ParseError;
+    use super::{ParseError, BATCH};
 
-    /// An entry of a fixed number of values, read by the archive.
+    /// An entry that the archive reads, alone or as a row of a batch.
     pub trait Entry: Sized {
-        /// Room for the values of one batch.
-        type Batch: AsRef<[u64]> + AsMut<[u64]> + Clone + core::fmt::Debug;
-        /// Room with nothing in it yet.
-        const ROOM: Self::Batch;
-        /// How many values one entry has.
-        const VALUES: usize;
+        /// The values of one entry in a batch.
+        type Row: Clone + core::fmt::Debug;
+        /// Room for a batch, with nothing in it yet.
+        const ROOM: [Self::Row; BATCH];
 
-        /// The entry with these values; there are `VALUES` of them.
-        fn from_values(values: &[u64]) -> Self;
+        /// The entry with these values.
+        fn from_row(row: &Self::Row) -> Self;
         /// Entry `i` of a table.
         fn one(class: u8, order: u8, table: &[u8], i: usize) -> Result<Self, ParseError>;
         /// Entries from number `from` on; how many.
-        fn many(class: u8, order: u8, table: &[u8], from: usize, out: &mut [u64]) -> usize;
+        fn many(class: u8, order: u8, table: &[u8], from: usize, rows: &mut [Self::Row; BATCH]) -> usize;
     }
 }
 
-/// Joins an entry type to its two functions of the archive and to its sizes in the two classes.
+/// Joins an entry type to its two functions of the archive, the one for one entry and the one for rows of a batch, and to
+/// its sizes in the two classes.
 macro_rules! entry_of_a_table {
-    ($type:ty, $values:literal values, $size32:literal or $size64:literal bytes, $one:ident, $many:ident) => {
+    ($type:ty, $size32:literal or $size64:literal bytes, $one:ident of $values:path, $many:ident of $row:path: $width:literal) => {
         impl $crate::parse::entry::Entry for $type {
-            type Batch = [u64; $values * $crate::parse::BATCH];
-            const ROOM: Self::Batch = [0; $values * $crate::parse::BATCH];
-            const VALUES: usize = $values;
+            type Row = [u64; $width];
+            const ROOM: [Self::Row; $crate::parse::BATCH] = [[0; $width]; $crate::parse::BATCH];
 
-            fn from_values(values: &[u64]) -> Self {
-                <$type>::of(values)
+            #[inline]
+            fn from_row(row: &Self::Row) -> Self {
+                $row(row)
             }
 
+            #[inline]
             fn one(class: u8, order: u8, table: &[u8], i: usize) -> Result<Self, $crate::parse::ParseError> {
-                let values = $crate::sys::$one(class, order, table, i)?;
-                Ok(<$type>::of(&values))
+                Ok($values(&$crate::sys::$one(class, order, table, i)?))
             }
 
-            fn many(class: u8, order: u8, table: &[u8], from: usize, out: &mut [u64]) -> usize {
-                $crate::sys::$many(class, order, table, from, out)
+            #[inline]
+            fn many(
+                class: u8,
+                order: u8,
+                table: &[u8],
+                from: usize,
+                rows: &mut [Self::Row; $crate::parse::BATCH],
+            ) -> usize {
+                $crate::sys::$many(class, order, table, from, rows.as_flattened_mut())
             }
         }
 
         impl $crate::parse::ParseAt for $type {
+            #[inline]
             fn size_for(class: $crate::file::Class) -> usize {
                 match class {
                     $crate::file::Class::ELF32 => $size32,
@@ -258,11 +265,12 @@ pub struct ParsingIterator<'data, E: EndianParse, P: ParseAt> {
     /// How many entries of the batch are there, and how many of them were handed out.
     there: usize,
     given: usize,
-    batch: P::Batch,
+    batch: [P::Row; BATCH],
 }
 
 impl<'data, E: EndianParse, P: ParseAt> ParsingIterator<'data, E, P> {
     /// A walk over these bytes.
+    #[inline]
     pub fn new(endian: E, class: Class, data: &'data [u8]) -> Self {
         ParsingIterator { endian, class, data, behind: 0, there: 0, given: 0, batch: P::ROOM }
     }
@@ -272,26 +280,39 @@ impl<'data, E: EndianParse, P: ParseAt> ParsingIterator<'data, E, P> {
         self.data
     }
 
-    fn fetch(&mut self) {
+    /// Fetches the next batch; whether there is an entry in it.
+    fn fetch(&mut self) -> bool {
         let (class, order) = (self.class.number(), order_number(self.endian));
-        self.there = P::many(class, order, self.data, self.behind, self.batch.as_mut());
+        self.there = P::many(class, order, self.data, self.behind, &mut self.batch);
         self.behind += self.there;
         self.given = 0;
+        self.there != 0
     }
 }
 
 impl<E: EndianParse, P: ParseAt> Iterator for ParsingIterator<'_, E, P> {
     type Item = P;
 
+    #[inline]
     fn next(&mut self) -> Option<P> {
-        if self.given == self.there {
-            self.fetch();
-            if self.there == 0 {
-                return None;
-            }
+        if self.given == self.there && !self.fetch() {
+            return None;
         }
-        let at = self.given * P::VALUES;
+        let row = self.batch.get(self.given)?;
         self.given += 1;
-        self.batch.as_ref().get(at..at + P::VALUES).map(P::from_values)
+        Some(P::from_row(row))
+    }
+
+    /// Batch by batch, so that no entry asks whether the batch has ended.
+    #[inline]
+    fn fold<B, F: FnMut(B, P) -> B>(mut self, init: B, mut with: F) -> B {
+        let mut folded = init;
+        while self.given < self.there || self.fetch() {
+            for row in self.batch.iter().take(self.there).skip(self.given) {
+                folded = with(folded, P::from_row(row));
+            }
+            self.given = self.there;
+        }
+        folded
     }
 }

@@ -25,17 +25,18 @@ pub struct Rela {
 }
 
 impl Rel {
-    fn of(values: &[u64]) -> Self {
+    #[inline]
+    fn of(values: &[u64; 3]) -> Self {
         Rel { r_offset: values[0], r_sym: values[1] as u32, r_type: values[2] as u32 }
     }
 }
 
 impl Rela {
-    fn of(values: &[u64]) -> Self {
-        let Rel { r_offset, r_sym, r_type } = Rel::of(values);
-        Rela { r_offset, r_sym, r_type, r_addend: values[3] as i64 }
+    #[inline]
+    fn of(values: &[u64; 4]) -> Self {
+        Rela { r_offset: values[0], r_sym: values[1] as u32, r_type: values[2] as u32, r_addend: values[3] as i64 }
     }
 }
 
-entry_of_a_table!(Rel, 3 values, 8 or 16 bytes, rel, rels);
-entry_of_a_table!(Rela, 4 values, 12 or 24 bytes, rela, relas);
+entry_of_a_table!(Rel, 8 or 16 bytes, rel of Rel::of, rels of Rel::of: 3);
+entry_of_a_table!(Rela, 12 or 24 bytes, rela of Rela::of, relas of Rela::of: 4);

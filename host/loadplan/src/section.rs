@@ -21,7 +21,8 @@ pub struct SectionHeader {
 }
 
 impl SectionHeader {
-    fn of(values: &[u64]) -> Self {
+    #[inline]
+    fn of(values: &[u64; 10]) -> Self {
         SectionHeader {
             sh_name: values[0] as u32,
             sh_type: values[1] as u32,
@@ -37,4 +38,4 @@ impl SectionHeader {
     }
 }
 
-entry_of_a_table!(SectionHeader, 10 values, 40 or 64 bytes, section, sections);
+entry_of_a_table!(SectionHeader, 40 or 64 bytes, section of SectionHeader::of, sections of SectionHeader::of: 10);

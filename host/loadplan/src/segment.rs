@@ -19,7 +19,8 @@ pub struct ProgramHeader {
 }
 
 impl ProgramHeader {
-    fn of(values: &[u64]) -> Self {
+    #[inline]
+    fn of(values: &[u64; 8]) -> Self {
         ProgramHeader {
             p_type: values[0] as u32,
             p_offset: values[1],
@@ -33,4 +34,4 @@ impl ProgramHeader {
     }
 }
 
-entry_of_a_table!(ProgramHeader, 8 values, 32 or 56 bytes, segment, segments);
+entry_of_a_table!(ProgramHeader, 32 or 56 bytes, segment of ProgramHeader::of, segments of ProgramHeader::of: 8);

@@ -19,7 +19,8 @@ pub struct Symbol {
 }
 
 impl Symbol {
-    fn of(values: &[u64]) -> Self {
+    #[inline]
+    fn of(values: &[u64; 6]) -> Self {
         Symbol {
             st_name: values[0] as u32,
             st_shndx: values[1] as u16,
@@ -51,4 +52,4 @@ impl Symbol {
     }
 }
 
-entry_of_a_table!(Symbol, 6 values, 16 or 24 bytes, symbol, symbols);
+entry_of_a_table!(Symbol, 16 or 24 bytes, symbol of Symbol::of, symbols of Symbol::of: 6);

@@ -206,6 +206,7 @@ extern "C" {
 }
 
 /// Lends an array for the values of one answer.
+#[inline]
 fn answered<const N: usize>(ask: impl FnOnce(&mut [u64; N]) -> u32) -> Answer<N> {
     let mut out = [0; N];
     match ask(&mut out) {
@@ -218,6 +219,7 @@ fn answered<const N: usize>(ask: impl FnOnce(&mut [u64; N]) -> u32) -> Answer<N>
 macro_rules! of_a_file {
     ($($(#[$doc:meta])* $name:ident = $c:ident ($($number:ident: $kind:ty),*) -> $values:literal;)*) => {$(
         $(#[$doc])*
+        #[inline]
         pub fn $name(file: &[u8] $(, $number: $kind)*) -> Answer<$values> {
             // SAFETY: pointer and length are one slice's; out has as many elements as the header asks for.
             answered(|out| unsafe { $c(file.as_ptr(), file.len() $(, $number)*, out) })
@@ -262,12 +264,14 @@ of_a_file! {
 macro_rules! of_a_table {
     ($($(#[$doc:meta])* $one:ident = $one_c:ident, $many:ident = $many_c:ident -> $values:literal;)*) => {$(
         $(#[$doc])*
+        #[inline]
         pub fn $one(class: u8, order: u8, table: &[u8], i: usize) -> Answer<$values> {
             // SAFETY: pointer and length are one slice's; out has as many elements as the header asks for.
             answered(|out| unsafe { $one_c(class, order, table.as_ptr(), table.len(), i, out) })
         }
 
         /// The same for as many entries, from number `from` on, as there are and as `out` has room for; how many.
+        #[inline]
         pub fn $many(class: u8, order: u8, table: &[u8], from: usize, out: &mut [u64]) -> usize {
             // SAFETY: each pointer and the length behind it are one slice's.
             unsafe { $many_c(class, order, table.as_ptr(), table.len(), from, out.as_mut_ptr(), out.len()) }
@@ -291,36 +295,42 @@ of_a_table! {
 }
 
 /// The first section with that name.
+#[inline]
 pub fn section_by_name(file: &[u8], name: &[u8]) -> Answer<2> {
     // SAFETY: each pointer and the length behind it are one slice's; out has two elements.
     answered(|out| unsafe { loadplan_section_by_name(file.as_ptr(), file.len(), name.as_ptr(), name.len(), out) })
 }
 
 /// The string at an offset of a string table.
+#[inline]
 pub fn string(table: &[u8], offset: usize) -> Answer<2> {
     // SAFETY: pointer and length are one slice's; out has two elements.
     answered(|out| unsafe { loadplan_string(table.as_ptr(), table.len(), offset, out) })
 }
 
 /// The string at an offset of a string table, if it is UTF-8.
+#[inline]
 pub fn string_utf8(table: &[u8], offset: usize) -> Answer<2> {
     // SAFETY: pointer and length are one slice's; out has two elements.
     answered(|out| unsafe { loadplan_string_utf8(table.as_ptr(), table.len(), offset, out) })
 }
 
 /// The SysV hash of a name.
+#[inline]
 pub fn sysv_hash(name: &[u8]) -> u32 {
     // SAFETY: pointer and length are one slice's.
     unsafe { loadplan_sysv_hash(name.as_ptr(), name.len()) }
 }
 
 /// The bucket count and the chain count of a SysV hash table whose parts lie in it.
+#[inline]
 pub fn hash_header(order: u8, table: &[u8]) -> Answer<2> {
     // SAFETY: pointer and length are one slice's; out has two elements.
     answered(|out| unsafe { loadplan_hash_header(order, table.as_ptr(), table.len(), out) })
 }
 
 /// Looks a name up in a SysV hash table over these symbols and strings.
+#[inline]
 pub fn hash_find(class: u8, order: u8, table: &[u8], symbols: &[u8], strings: &[u8], name: &[u8]) -> Answer<2> {
     // SAFETY: each pointer and the length behind it are one slice's; out has two elements.
     answered(|out| unsafe {
@@ -341,12 +351,14 @@ pub fn hash_find(class: u8, order: u8, table: &[u8], symbols: &[u8], strings: &[
 }
 
 /// Plans a file for a window; the records go to the front of `table`.
+#[inline]
 pub fn plan(file: &[u8], window_start: u64, window_length: u64, table: &mut [u8]) -> Planned {
     // SAFETY: each pointer and the length behind it are one slice's.
     unsafe { loadplan_plan(file.as_ptr(), file.len(), window_start, window_length, table.as_mut_ptr(), table.len()) }
 }
 
 /// Carries the first `records` records of `table` out over `memory`; 0, or the number of the refusal.
+#[inline]
 pub fn carry_out(
     file: &[u8],
     window_start: u64,
@@ -372,6 +384,7 @@ pub fn carry_out(
 }
 
 /// Plans a file and carries the plan out over `memory`.
+#[inline]
 pub fn load(file: &[u8], window_start: u64, window_length: u64, table: &mut [u8], memory: &mut [u8]) -> Planned {
     // SAFETY: each pointer and the length behind it are one slice's.
     unsafe {

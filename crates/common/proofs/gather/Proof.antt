@@ -1,56 +1,31 @@
--- `common::gather` meets its contract. The invariant: the sections before the i-th give c.
+-- `common::gather` meets its contract: the table of an opened file lies in it.
 -- Assumes nothing.
 use native.Mathlib.Omega.{arith}
-use native.Mathlib.Numerals.{add-one}
-use Prim.Native.Nat.{_+_, _-_, _≤_, suc}
-use mathlib.Core.Path.{_≡_, refl, sym, ap, _∙_}
+use mathlib.Core.Path.{_≡_, sym, ap, _∙_}
 use denote.Ref.{now}
-use Rattle.common.specs.Common.{belowOf}
+use Rattle.elf_bytes.proofs.Laws.{tabled-at}
 use Rattle.common.specs.declared.GotCommon.the-variants.{Is}
-use Rattle.common.proofs.Laws.{below-refused, below-next}
+use Rattle.common.proofs.Turn.{all-sections, no-sections}
 use borrow.Author.Needs.{needs}
 use Rattle.common.proofs.gather.Statement.{statement}
 use Rattle.common.proofs.gather.Tie as tie
 
-abbrev Inv-loop : tie.InvT-loop
-Inv-loop elf d n c₀ i₀ c i = (i ≤ n) × (belowOf d elf i ≡ Is c)
+sub-gather-in : tie.Need-sub-gather-in
+sub-gather-in c = omega (arith, tabled-at _ _ _ (c .before .before .before .before .pre .sections) (c .before .sections .given .1))
 
-abbrev μ-loop : tie.MeasureT-loop
-μ-loop elf d n c₀ i₀ c i = n - i
+part-gather-in-start : tie.Need-part-gather-in-start
+part-gather-in-start c = omega (arith, tabled-at _ _ _ (c .before .before .before .before .pre .sections) (c .before .sections .given .1))
 
-loop-holds : tie.Need-loop-holds Inv-loop μ-loop
-unfolding belowOf
-loop-holds c = (omega arith, ap Is (sym (c .nothing .ensures)))
+part-gather-in-end : tie.Need-part-gather-in-end
+part-gather-in-end c = omega (arith, tabled-at _ _ _ (c .before .before .before .before .pre .sections) (c .before .sections .given .1))
 
-step-requires : tie.Need-step-requires Inv-loop μ-loop
-step-requires c κs = c .before .before .before .before .before .pre
+returns : tie.Need-returns
+returns c = ap Is (c .common-of .ensures) ∙ sym (no-sections _ _ (c .before .enum-told .given .1))
 
-returns : tie.Need-returns Inv-loop μ-loop
-returns c =
-    let a = c .before .before .before .before .before .before .before .before .before .args in
-    let i = c .before .before .before .before .before .loop .i in
-    let n = c .before .before .before .before .before .before .before .count .result in
-    let q = below-next (now (a .d)) (a .elf) (c .before .before .before .before .before .loop .c) i (c .before .before .before .before .before .loop .inv .1) ∙ sym (c .before .before .before .step .ensures) ∙ c .before .g .given .1 in
-    let e : n ≡ suc i + (n - suc i) = omega (arith, c .before .before .before .before .loop-test .taken) in
-    rw (← (c .before .before .before .before .before .before .before .count .ensures), e) (sym (below-refused (now (a .d)) (a .elf) _ (suc i) (n - suc i) q))
-
-add-i : tie.Need-add-i Inv-loop μ-loop
-add-i c = omega (arith, c .before .before .before .before .loop-test .taken, c .before .before .before .before .before .before .before .count .ok)
-
-loop-less : tie.Need-loop-less Inv-loop μ-loop
-loop-less c = omega (arith, c .before .before .before .before .loop-test .taken)
-
-loop-again : tie.Need-loop-again Inv-loop μ-loop
-loop-again c =
-    let a = c .before .before .before .before .before .before .before .before .before .args in
-    let i = c .before .before .before .before .before .loop .i in
-    let q = below-next (now (a .d)) (a .elf) (c .before .before .before .before .before .loop .c) i (c .before .before .before .before .before .loop .inv .1) ∙ sym (c .before .before .before .step .ensures) ∙ c .before .g2 .given .1 in
-    (omega (arith, c .before .before .before .before .loop-test .taken), rw add-one q)
-
-returns-2 : tie.Need-returns-2 Inv-loop μ-loop
+returns-2 : tie.Need-returns-2
 returns-2 c =
-    let e : c .before .loop .i ≡ c .before .before .before .count .result = omega (arith, c .loop-test .left, c .before .loop .inv .0) in
-    sym (rw (← (c .before .before .before .count .ensures), ← e) (c .before .loop .inv .1))
+    let l = tabled-at _ _ _ (c .before .before .before .before .before .before .pre .sections) (c .before .before .before .sections .given .1) in
+    rw (all-sections (now (c .before .before .before .before .before .before .args .d)) (c .before .before .before .before .before .before .args .elf) (c .before .before .before .sections .given .0 .0) (c .before .before .before .sections .given .1) (l .0) (l .1)) (c .gather-in .ensures)
 
 pub gather-spec : {M : Type 1} → statement M
-gather-spec = tie.close (tie.spec Inv-loop μ-loop (λ c κs. search needs) (λ c κs. search needs) loop-holds step-requires (λ c. search needs) returns (λ c. search needs) add-i loop-less loop-again returns-2)
+gather-spec = tie.close (tie.spec (λ c. search needs) (λ c κs. search needs) (λ c. search needs) sub-gather-in part-gather-in-start part-gather-in-end (λ c κs. search needs) returns returns-2)
