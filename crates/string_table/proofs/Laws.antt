@@ -5,7 +5,7 @@ use native.Mathlib.Nat.{lt-of-not-le}
 use native.Mathlib.Numerals.{add-one}
 use native.Mathlib.Omega.{arith}
 use mathlib.Core.Path.{_≡_, refl, sym, ap, _∙_}
-use mathlib.Core.Bool.{Bool, true, false, cond, _&&_, not}
+use mathlib.Core.Bool.{Bool, true, false, cond, _&&_, not, and-assoc, and-true}
 use mathlib.Core.List.{List, [], _∷_}
 use lib.ListN.{length, getD, take, drop, length-take, length-drop, drop-of-length-le}
 use lib.Seq.{getD-take, getD-drop, drop-cons}
@@ -119,19 +119,11 @@ all-clean (b ∷ s) h = rw (ne-eqb b 0 (h 0 (omega arith)), all-clean s (λ j g.
 pub clean-turn : (s : List ℕ) (x : Bool) (i : ℕ) → i < length s
     → (x && not (eqb (getD s i 0) 0) && isClean (drop (i + 1) s)) ≡ (x && isClean (drop i s))
 unfolding isClean
-clean-turn s x i h = rw (drop-cons s i 0 h, add-one i) (pick x)
-  where
-    pick : (x : Bool) → (x && not (eqb (getD s i 0) 0) && isClean (drop (suc i) s)) ≡ (x && (not (eqb (getD s i 0) 0) && isClean (drop (suc i) s)))
-    pick true = refl
-    pick false = refl
+clean-turn s x i h = rw (drop-cons s i 0 h, add-one i) (and-assoc x _ _)
 
 pub clean-over : (s : List ℕ) (x : Bool) (i : ℕ) → length s ≤ i → x ≡ (x && isClean (drop i s))
 unfolding isClean
-clean-over s x i h = rw (drop-of-length-le s h) (pick x)
-  where
-    pick : (x : Bool) → x ≡ (x && true)
-    pick true = refl
-    pick false = refl
+clean-over s x i h = rw (drop-of-length-le s h) (sym (and-true x))
 
 -- so a string of a table is clean, and a name that is not clean is none
 pub text-clean : (s : List ℕ) (o : ℕ) → isClean (textAt s o) ≡ true
