@@ -5,11 +5,11 @@
 -- walkOf c e h syms strs name n i          at most n turns, from the index i on
 -- findOf c e h syms strs name              the lookup
 -- walkTurns, findTurns                     how many turns they take
--- Ready                                    what a turn may take for granted: the table is readable, and the counts are what they are
+-- Ready                                    what a turn may take for granted: the table is readable, and what is known of it, of the strings and of the name is so
 -- Assumes nothing.
 use Prim.Native.Nat.{ℕ, zero, suc, _*_, _%_}
 use mathlib.Core.Path.{_≡_}
-use mathlib.Core.Bool.{cond}
+use mathlib.Core.Bool.{Bool, cond}
 use mathlib.Core.List.{List}
 use lib.ListN.{length}
 use lib.Dec.{eqb}
@@ -20,7 +20,7 @@ use Rattle.endian.specs.declared.Class.{Class}
 use Rattle.parse.specs.Entry.{entryFault, countOf}
 use Rattle.parse.specs.declared.Found.{Found}
 use Rattle.symbol.specs.Layout.{symbolAt}
-use Rattle.string_table.specs.Text.{textFault, textAt, lastZero, sameBytes}
+use Rattle.string_table.specs.Text.{textFault, textAt, lastZero, sameBytes, isClean}
 use Rattle.hash.specs.Sysv.{sysvHash}
 use Rattle.hash.specs.Table.{bucketCount, chainCount, hashFault, headOf, bucketAt, chainAt}
 use Rattle.hash.specs.declared.Head.{Head}
@@ -79,8 +79,9 @@ module _ (c : Class) (e : Order) (h syms strs name : List ℕ) where
   unfoldable pub findTurns : ℕ
   findTurns = answer (hashFault e h) (cond (eqb (bucketCount e h) 0) 0 (walkTurns (chainCount e h) startOf)) (λ f. 0)
 
-pub record Ready (c : Class) (e : Order) (h : List ℕ) (d : Head) (syms : List ℕ) (whole : ℕ) (strs : List ℕ) (last : Found) : Type 0 where
+pub record Ready (c : Class) (e : Order) (h : List ℕ) (d : Head) (syms : List ℕ) (whole : ℕ) (strs : List ℕ) (last : Found) (name : List ℕ) (clean : Bool) : Type 0 where
   pub fine : hashFault e h ≡ noFault
   pub head : d ≡ headOf e h
   pub counted : whole ≡ symbolCount c syms
   pub known : last ≡ lastZero strs
+  pub told : clean ≡ isClean name

@@ -1,14 +1,14 @@
 // The SysV hash table: the hash of a name, the table's header, and the lookup of a name.
 // A lookup takes at most as many turns as the table has chain entries. A turn tests one range for the symbol and one for the chain
 // entry, and reads the symbol's name field only. Where the string table's last zero byte stands is found once, so no turn searches
-// for the end of a string.
+// for the end of a string, and whether the name holds a zero byte is found with its hash, so no turn looks for one.
 ghost use mathlib.Core.Path.{_≡_};
 ghost use Prim.Native.Nat.{_+_, _*_, _<_, _≤_};
 ghost use lib.ListN.{length};
 ghost use Rattle.endian.specs.Range.{answer, noFault};
 ghost use Rattle.endian.specs.Place.{sizeOf, symbol};
 ghost use Rattle.parse.specs.Entry.{entryFault, countOf};
-ghost use Rattle.hash.specs.Sysv.{sysvStep, sysvHash};
+ghost use Rattle.hash.specs.Sysv.{sysvStep, sysvHash, hashedOf};
 ghost use Rattle.hash.specs.Table.{hashFault, headOf};
 ghost use Rattle.hash.specs.Find.{nextOf, turnOf, walkOf, findOf, startOf, Ready};
 use endian::Class;
@@ -42,6 +42,12 @@ enum Turn {
     Fails(Fault),
 }
 
+// What a lookup needs of a name: its hash, and whether no byte of it is zero.
+struct Hashed {
+    hash: u32,
+    clean: bool,
+}
+
 // One byte. The sum is made in 64 bits, and its low 32 are kept.
 fn hash_step(h: u32, b: u8) -> u32
     ensures { λ r. ⌜ r ≡ sysvStep h b ⌝ }
@@ -50,17 +56,31 @@ fn hash_step(h: u32, b: u8) -> u32
     n ^ ((n >> 24) & 0xf0)
 }
 
+// Both in one walk over the name. The flag is made without a branch, so it adds no guess to a turn.
+fn hash_of(name: &[u8]) -> Hashed
+    ensures { λ r. ⌜ r ≡ hashedOf (now (name .entry)) ⌝ }
+{
+    let mut h: u32 = 0;
+    let mut clean = true;
+    let mut i = 0;
+    while i < name.len() {
+        let b = name[i];
+        h = hash_step(h, b);
+        clean = clean & (b != 0);
+        i += 1;
+    }
+    Hashed {
+        hash: h % 268435456,
+        clean: clean,
+    }
+}
+
 // The hash of a name.
 pub fn sysv_hash(name: &[u8]) -> u32
     ensures { λ r. ⌜ r ≡ sysvHash (now (name .entry)) ⌝ }
 {
-    let mut h: u32 = 0;
-    let mut i = 0;
-    while i < name.len() {
-        h = hash_step(h, name[i]);
-        i += 1;
-    }
-    h % 268435456
+    let g = hash_of(name);
+    g.hash
 }
 
 // The header of a table: the counts, and both tables, must lie in the data.
@@ -80,6 +100,16 @@ pub fn header(order: Order, h: &[u8]) -> GotHead
         });
     }
     GotHead::Refused(Fault { number: 11 })
+}
+
+// How many whole symbols len bytes hold. Each class divides by a constant of its own, so no division is made.
+fn symbol_count(class: Class, len: usize) -> usize
+    ensures { λ r. ⌜ r ≡ countOf (sizeOf symbol class) len ⌝ }
+{
+    match class {
+        Class::Elf32 => len / 16,
+        Class::Elf64 => len / 24,
+    }
 }
 
 // The fault of symbol i. The count of whole entries tells in one comparison that there is none.
@@ -120,9 +150,10 @@ fn one_turn(
     strs: &[u8],
     last: Found,
     name: &[u8],
+    clean: bool,
     i: usize,
 ) -> Turn
-    requires { ⌜ Ready class order (now h) d (now syms) whole (now strs) last ⌝ }
+    requires { ⌜ Ready class order (now h) d (now syms) whole (now strs) last (now name) clean ⌝ }
     ensures { λ r. ⌜ r ≡ turnOf class order (now (h .entry)) (now (syms .entry)) (now (strs .entry)) (now (name .entry)) i ⌝ }
 {
     let f = symbol_fault(class, syms.len(), whole, i);
@@ -131,7 +162,7 @@ fn one_turn(
     }
     let size = symbol::size_of(class);
     let o = endian::u32_in(order, syms, i * size);
-    let m = string_table::compare(strs, last, o as usize, name);
+    let m = string_table::compare(strs, last, o as usize, name, clean);
     match m {
         Compared::Same => Turn::Same,
         Compared::Other => next(order, h, d, i),
@@ -150,9 +181,10 @@ fn walk(
     strs: &[u8],
     last: Found,
     name: &[u8],
+    clean: bool,
     start: usize,
 ) -> Lookup
-    requires { ⌜ Ready class order (now h) d (now syms) whole (now strs) last ⌝ }
+    requires { ⌜ Ready class order (now h) d (now syms) whole (now strs) last (now name) clean ⌝ }
     ensures { λ r. ⌜ r ≡ walkOf class order (now (h .entry)) (now (syms .entry)) (now (strs .entry)) (now (name .entry)) (d .chains) start ⌝ }
 {
     let mut i = start;
@@ -161,7 +193,7 @@ fn walk(
         if i == 0 {
             return Lookup::Nothing;
         }
-        let t = one_turn(class, order, h, d, syms, whole, strs, last, name, i);
+        let t = one_turn(class, order, h, d, syms, whole, strs, last, name, clean, i);
         match t {
             Turn::Next(j) => {
                 i = j;
@@ -189,9 +221,10 @@ pub fn find(class: Class, order: Order, h: &[u8], syms: &[u8], strs: &[u8], name
             if b == 0 {
                 return Lookup::Nothing;
             }
-            let at = sysv_hash(name) % b;
+            let n = hash_of(name);
+            let at = n.hash % b;
             let start = endian::u32_in(order, h, 8 + 4 * (at as usize));
-            let whole = parse::count(symbol::size_of(class), syms.len());
+            let whole = symbol_count(class, syms.len());
             let last = string_table::last_zero(strs);
             walk(
                 class,
@@ -203,6 +236,7 @@ pub fn find(class: Class, order: Order, h: &[u8], syms: &[u8], strs: &[u8], name
                 strs,
                 last,
                 name,
+                n.clean,
                 start as usize,
             )
         }

@@ -3,7 +3,7 @@
 use Prim.Native.Nat.{ℕ, _*_, _/_, _<_, _≤_}
 use native.Mathlib.Omega.{arith}
 use mathlib.Core.Path.{_≡_, refl, sym, ap, _∙_}
-use mathlib.Core.Bool.{Bool, true, false, cond, _&&_}
+use mathlib.Core.Bool.{Bool, true, false, cond, _&&_, and-false}
 use mathlib.Core.List.{List}
 use lib.ListN.{length}
 use lib.Dec.{eqb, leb, ltb}
@@ -15,9 +15,9 @@ use Rattle.endian.specs.declared.Order.{Order}
 use Rattle.parse.specs.declared.Found.{Found}
 use Rattle.parse.specs.declared.Found.the-variants.{At, Nothing}
 use Rattle.parse.proofs.Laws.{first-never}
-use Rattle.string_table.specs.Text.{lastZero, textFault, faultWith, textAt, sameBytes}
+use Rattle.string_table.specs.Text.{lastZero, textFault, faultWith, textAt, sameBytes, isClean}
 use Rattle.string_table.specs.Utf8.{wellFormed, utf8Fault}
-use Rattle.string_table.proofs.Laws.{last-inside, fault-known, same-known}
+use Rattle.string_table.proofs.Laws.{last-inside, fault-known, same-known, unclean-other}
 use Rattle.lookup.specs.Lookup.{textNamed, named, firstNamed}
 
 -- at or before the last zero byte a string stands
@@ -91,6 +91,12 @@ other s o name w = pick (eqb (textFault s o .number) 0) (sameBytes (textAt s o) 
         let y : _≡_ {A = Bool} true false = sym r ∙ k in
         let x : _≡_ {A = ℕ} 0 1 = cc in
         absurd (omega arith)
+
+-- nor is one that holds a zero byte
+pub none-unclean : (e : Order) (t : List ℕ) (size : ℕ) (s name : List ℕ) → isClean name ≡ false → firstNamed e t size s name ≡ Nothing
+unfolding firstNamed named textNamed
+none-unclean e t size s name h =
+    first-never _ _ _ (λ i. let o = numberAt e 4 t (i * size) in rw (unclean-other s o name h) (and-false (eqb (utf8Fault s o .number) 0)))
 
 pub none-other : (e : Order) (t : List ℕ) (size : ℕ) (s name : List ℕ) → wellFormed name ≡ false → firstNamed e t size s name ≡ Nothing
 unfolding firstNamed named

@@ -3,7 +3,7 @@
 ghost use mathlib.Core.Path.{_≡_};
 ghost use Prim.Native.Nat.{_≤_};
 ghost use Rattle.parse.specs.declared.Found.{Found};
-ghost use Rattle.string_table.specs.Text.{lastZero};
+ghost use Rattle.string_table.specs.Text.{lastZero, isClean};
 ghost use Rattle.string_table.specs.Utf8.{wellFormed};
 ghost use mathlib.Core.Bool.{true};
 ghost use Rattle.elf_bytes.specs.Open.{Whole};
@@ -118,9 +118,9 @@ pub fn name_table(d: &[u8]) -> GotTable
 
 // ---- a section by its name
 
-// Whether the string at o is the name, which is UTF-8: an offset behind the last zero byte has no string.
+// Whether the string at o is the name, which is UTF-8 and holds no zero byte: an offset behind the last zero byte has no string.
 fn is_named(strs: &[u8], last: usize, o: usize, name: &[u8]) -> bool
-    requires { ⌜ lastZero (now strs) ≡ Found.At last ⌝ ∗ ⌜ wellFormed (now name) ≡ true ⌝ }
+    requires { ⌜ lastZero (now strs) ≡ Found.At last ⌝ ∗ ⌜ wellFormed (now name) ≡ true ⌝ ∗ ⌜ isClean (now name) ≡ true ⌝ }
     ensures { λ r. ⌜ r ≡ textNamed (now (strs .entry)) o (now (name .entry)) ⌝ }
 {
     if o <= last {
@@ -131,7 +131,7 @@ fn is_named(strs: &[u8], last: usize, o: usize, name: &[u8]) -> bool
 
 // The first section whose name, at the offset that stands first in its header, is the name.
 fn search(order: Order, t: &[u8], size: usize, strs: &[u8], last: usize, name: &[u8]) -> Found
-    requires { ⌜ 4 ≤ size ⌝ ∗ ⌜ lastZero (now strs) ≡ Found.At last ⌝ ∗ ⌜ wellFormed (now name) ≡ true ⌝ }
+    requires { ⌜ 4 ≤ size ⌝ ∗ ⌜ lastZero (now strs) ≡ Found.At last ⌝ ∗ ⌜ wellFormed (now name) ≡ true ⌝ ∗ ⌜ isClean (now name) ≡ true ⌝ }
     ensures { λ r. ⌜ r ≡ firstNamed order (now (t .entry)) size (now (strs .entry)) (now (name .entry)) ⌝ }
 {
     let n = t.len() / size;
@@ -146,7 +146,8 @@ fn search(order: Order, t: &[u8], size: usize, strs: &[u8], last: usize, name: &
     Found::Nothing
 }
 
-// Only names that are UTF-8 are compared, so a name that is not is nobody's.
+// Only strings that are UTF-8 are compared, and no string holds a zero byte, so a name that is not UTF-8 or holds one is nobody's.
+// Both are found out here, once for all sections.
 fn first_named(order: Order, t: &[u8], size: usize, strs: &[u8], name: &[u8]) -> Found
     requires { ⌜ 4 ≤ size ⌝ }
     ensures { λ r. ⌜ r ≡ firstNamed order (now (t .entry)) size (now (strs .entry)) (now (name .entry)) ⌝ }
@@ -155,6 +156,9 @@ fn first_named(order: Order, t: &[u8], size: usize, strs: &[u8], name: &[u8]) ->
     match last {
         Found::Nothing => Found::Nothing,
         Found::At(e) => {
+            if !string_table::is_clean(name) {
+                return Found::Nothing;
+            }
             if string_table::is_utf8(name) {
                 return search(order, t, size, strs, e, name);
             }

@@ -1,13 +1,14 @@
 -- The laws of strings: where a string ends, what the last zero byte tells, and when a string is a name.
 -- Assumes nothing.
-use Prim.Native.Nat.{ℕ, suc, _+_, _-_, _<_, _≤_}
+use Prim.Native.Nat.{ℕ, zero, suc, _+_, _-_, _<_, _≤_}
 use native.Mathlib.Nat.{lt-of-not-le}
+use native.Mathlib.Numerals.{add-one}
 use native.Mathlib.Omega.{arith}
 use mathlib.Core.Path.{_≡_, refl, sym, ap, _∙_}
-use mathlib.Core.Bool.{Bool, true, false, cond, _&&_}
+use mathlib.Core.Bool.{Bool, true, false, cond, _&&_, not, and-assoc, and-true}
 use mathlib.Core.List.{List, [], _∷_}
-use lib.ListN.{length, getD, take, drop, length-take, length-drop}
-use lib.Seq.{getD-take, getD-drop, ext-getD}
+use lib.ListN.{length, getD, take, drop, length-take, length-drop, drop-of-length-le}
+use lib.Seq.{getD-take, getD-drop, drop-cons}
 use lib.Dec.{eqb, ltb, leb}
 use borrow.Author.Tests.{eq-eqb, ne-eqb, eqb-true, eqb-false, le-leb, lt-leb, leb-true, ltb-false}
 use Rattle.endian.specs.Range.{faulty, noFault, answer}
@@ -18,7 +19,7 @@ use Rattle.parse.specs.declared.Found.the-variants.{At, Nothing}
 use Rattle.parse.specs.declared.Range.{Range}
 use Rattle.parse.specs.declared.GotRange.the-variants.{Is, Refused}
 use Rattle.parse.proofs.Laws.{first-bounds}
-use Rattle.string_table.specs.Text.{isZero, endOf, lastBelow, lastZero, textFault, faultWith, noEnd, noneFrom, textAt, upTo, textRange, between, sameBytes}
+use Rattle.string_table.specs.Text.{isZero, endOf, lastBelow, lastZero, textFault, faultWith, noEnd, noneFrom, textAt, upTo, textRange, between, sameBytes, sameRun, isClean}
 use Rattle.string_table.specs.Utf8.{wellFormed, utf8Fault}
 use Rattle.string_table.proofs.Search.{first-nothing, first-at, first-is, last-nothing, last-at}
 
@@ -64,12 +65,6 @@ fault-known s o = pick (ltb (length s) o) refl
     pick true q = refl
     pick false q = rw (known-end s o (ltb-false _ _ q))
 
--- what a comparison from the end finds where the string at o is the name, in a table whose last zero byte stands at l
-pub record Agrees (s : List ℕ) (l o : ℕ) (name : List ℕ) : Type 0 where
-  pub room : o + length name ≤ l
-  pub ends : getD s (o + length name) 0 ≡ 0
-  pub bytes : (j : ℕ) → j < length name → (getD s (o + j) 0 ≡ getD name j 0) × (getD name j 0 ≡ 0 → ⊥)
-
 same-self : (s : List ℕ) → sameBytes s s ≡ true
 unfolding sameBytes
 same-self [] = refl
@@ -96,46 +91,105 @@ same-other s t h = pick (sameBytes s t) refl
     pick true q = absurd (h (same-known s t q))
     pick false q = refl
 
+-- the bytes of a part of the table, and of one that is the name
+part-byte : (s : List ℕ) (o n j : ℕ) → j < n → getD (take n (drop o s)) j 0 ≡ getD s (o + j) 0
+part-byte s o n j h = rw (getD-take, getD-drop)
+
+pub run-byte : (s : List ℕ) (o : ℕ) (name : List ℕ) → take (length name) (drop o s) ≡ name → (j : ℕ) → j < length name → getD s (o + j) 0 ≡ getD name j 0
+run-byte s o name e j h = sym (part-byte s o (length name) j h) ∙ ap (λ (t : List ℕ). getD t j 0) e
+
+-- no byte of a clean list is zero, and a list is clean where none is
+clean-byte : (s : List ℕ) → isClean s ≡ true → (j : ℕ) → j < length s → getD s j 0 ≡ 0 → ⊥
+unfolding isClean
+clean-byte [] h j g z = omega arith
+clean-byte (b ∷ s) h j g z = pick (clean-byte s) (eqb b 0) refl h j g z
+  where
+    pick : (isClean s ≡ true → (j : ℕ) → j < length s → getD s j 0 ≡ 0 → ⊥) → (x : Bool) → eqb b 0 ≡ x → (not x && isClean s) ≡ true
+        → (j : ℕ) → j < suc (length s) → getD (b ∷ s) j 0 ≡ 0 → ⊥
+    pick f true q r j g z = let y : _≡_ {A = ℕ} 0 1 = cc in omega arith
+    pick f false q r zero g z = eqb-false _ _ q z
+    pick f false q r (suc j) g z = f r j (omega arith) z
+
+all-clean : (s : List ℕ) → ((j : ℕ) → j < length s → getD s j 0 ≡ 0 → ⊥) → isClean s ≡ true
+unfolding isClean
+all-clean [] h = refl
+all-clean (b ∷ s) h = rw (ne-eqb b 0 (h 0 (omega arith)), all-clean s (λ j g. h (suc j) (omega arith)))
+
+-- a byte more looked at, and none left
+pub clean-turn : (s : List ℕ) (x : Bool) (i : ℕ) → i < length s
+    → (x && not (eqb (getD s i 0) 0) && isClean (drop (i + 1) s)) ≡ (x && isClean (drop i s))
+unfolding isClean
+clean-turn s x i h = rw (drop-cons s i 0 h, add-one i) (and-assoc x _ _)
+
+pub clean-over : (s : List ℕ) (x : Bool) (i : ℕ) → length s ≤ i → x ≡ (x && isClean (drop i s))
+unfolding isClean
+clean-over s x i h = rw (drop-of-length-le s h) (sym (and-true x))
+
+-- so a string of a table is clean, and a name that is not clean is none
+pub text-clean : (s : List ℕ) (o : ℕ) → isClean (textAt s o) ≡ true
+unfolding textAt endOf
+text-clean s o = pick (endOf s o) refl
+  where
+    pick : (f : Found) → firstFrom (isZero s) (length s - o) o ≡ f → isClean (upTo s o f) ≡ true
+    pick (At e) q =
+        let z = first-at (isZero s) (length s - o) o e q in
+        all-clean _ (λ j g.
+        let k : length (take (e - o) (drop o s)) ≤ e - o = simp (length-take) (omega arith) in
+        let i : j < e - o = omega arith in
+        λ y. eqb-false _ _ (z .1 (o + j) (omega arith) (omega arith)) (sym (part-byte s o (e - o) j i) ∙ y))
+    pick Nothing q = all-clean [] (λ j g. absurd (omega arith))
+
+pub unclean-other : (s : List ℕ) (o : ℕ) (name : List ℕ) → isClean name ≡ false → sameBytes (textAt s o) name ≡ false
+unclean-other s o name h = same-other _ _ (λ e. let k : true ≡ false = sym (text-clean s o) ∙ ap isClean e ∙ h in let y : _≡_ {A = ℕ} 0 1 = cc in omega arith)
+
 -- the string at o, of a table whose byte n behind o is the first zero byte from there on
-pub ends-there : (s : List ℕ) (o n : ℕ) → o + n < length s → getD s (o + n) 0 ≡ 0 → ((j : ℕ) → j < n → getD s (o + j) 0 ≡ 0 → ⊥) → endOf s o ≡ At (o + n)
+ends-there : (s : List ℕ) (o n : ℕ) → o + n < length s → getD s (o + n) 0 ≡ 0 → ((j : ℕ) → j < n → getD s (o + j) 0 ≡ 0 → ⊥) → endOf s o ≡ At (o + n)
 unfolding endOf
 ends-there s o n b z h = first-is (isZero s) (length s - o) o (o + n) (omega arith) (omega arith) (eq-eqb _ _ z)
     (λ j c d. let e : o + (j - o) ≡ j = omega arith in ne-eqb _ _ (rw e at (h (j - o) (omega arith))))
 
-pub same-agreed : (s : List ℕ) (l o : ℕ) (name : List ℕ) → lastZero s ≡ At l → Agrees s l o name → sameBytes (textAt s o) name ≡ true
-unfolding textAt
-same-agreed s l o name h a =
-    let b = last-inside s l h in
-    let e = ends-there s o (length name) (omega arith) (a .ends) (λ j g z. a .bytes j g .1 (sym (a .bytes j g .0) ∙ z)) in
-    let w : o + length name - o ≡ length name = omega arith in
-    let len : length (take (length name) (drop o s)) ≡ length name = simp (length-take, length-drop) (omega arith) in
-    same-equal _ _ (rw (e, w) (ext-getD 0 _ _ len (λ i g. let k : i < length name = omega arith in rw (getD-take, getD-drop) (a .bytes i k .0))))
+-- what a comparison from the end finds where the string at o is the name, in a table whose last zero byte stands at l
+pub record Agrees (s : List ℕ) (l o : ℕ) (name : List ℕ) : Type 0 where
+  pub room : o + length name ≤ l
+  pub ends : getD s (o + length name) 0 ≡ 0
+  pub bytes : take (length name) (drop o s) ≡ name
 
-pub agrees-same : (s : List ℕ) (l o : ℕ) (name : List ℕ) → lastZero s ≡ At l → o ≤ l → textAt s o ≡ name → Agrees s l o name
-unfolding textAt endOf lastZero
-agrees-same s l o name h b t = pick (endOf s o) refl t
-  where
-    pick : (f : Found) → firstFrom (isZero s) (length s - o) o ≡ f → upTo s o f ≡ name → Agrees s l o name
-    pick (At e) q r =
-        let d = first-bounds (isZero s) (length s - o) o e q in
-        let z = first-at (isZero s) (length s - o) o e q in
-        let n : length name ≡ e - o = ap length (sym r) ∙ simp (length-take, length-drop) (omega arith) in
-        let m : o + length name ≡ e = omega arith in
-        let w = lt-of-not-le {n = suc l} {m = e} (λ g. let k : true ≡ false = sym (z .0) ∙ last-at (isZero s) (length s) l h .2 e g (omega arith) in let y : _≡_ {A = ℕ} 0 1 = cc in omega arith) in
-        record {
-          room = omega arith;
-          ends = rw m (eqb-true _ _ (z .0));
-          bytes = λ j g.
-              let i : j < e - o = omega arith in
-              let x : getD name j 0 ≡ getD s (o + j) 0 = rw (← r, getD-take, getD-drop) in
-              (sym x, λ k. eqb-false _ _ (z .1 (o + j) (omega arith) (omega arith)) (sym x ∙ k));
-        }
-    pick Nothing q r =
-        let k : true ≡ false = sym (last-at (isZero s) (length s) l h .1) ∙ first-nothing (isZero s) (length s - o) o q l b (omega (arith, last-at (isZero s) (length s) l h .0)) in
-        let y : _≡_ {A = ℕ} 0 1 = cc in absurd (omega arith)
+module _ (s : List ℕ) (l o : ℕ) (name : List ℕ) (last : lastZero s ≡ At l) where
+  same-agreed : isClean name ≡ true → Agrees s l o name → sameBytes (textAt s o) name ≡ true
+  unfolding textAt
+  same-agreed c a =
+      let b = last-inside s l last in
+      let e = ends-there s o (length name) (omega (arith, a .room)) (a .ends) (λ j g z. clean-byte name c j g (sym (run-byte s o name (a .bytes) j g) ∙ z)) in
+      let w : o + length name - o ≡ length name = omega arith in
+      same-equal _ _ (rw (e, w) (a .bytes))
 
-pub same-refused : (s : List ℕ) (l o : ℕ) (name : List ℕ) → lastZero s ≡ At l → o ≤ l → (Agrees s l o name → ⊥) → sameBytes (textAt s o) name ≡ false
-same-refused s l o name h b n = same-other _ _ (λ e. n (agrees-same s l o name h b e))
+  agrees-same : o ≤ l → textAt s o ≡ name → Agrees s l o name
+  unfolding textAt endOf lastZero
+  agrees-same b t = pick (endOf s o) refl t
+    where
+      pick : (f : Found) → firstFrom (isZero s) (length s - o) o ≡ f → upTo s o f ≡ name → Agrees s l o name
+      pick (At e) q r =
+          let d = first-bounds (isZero s) (length s - o) o e q in
+          let z = first-at (isZero s) (length s - o) o e q .0 in
+          let n : length name ≡ e - o = ap length (sym r) ∙ simp (length-take, length-drop) (omega arith) in
+          let m : o + length name ≡ e = omega arith in
+          let w = lt-of-not-le {n = suc l} {m = e} (λ g. let k : true ≡ false = sym z ∙ last-at (isZero s) (length s) l last .2 e g (omega arith) in let y : _≡_ {A = ℕ} 0 1 = cc in omega arith) in
+          record { room = omega arith; ends = rw m (eqb-true _ _ z); bytes = rw n r }
+      pick Nothing q r =
+          let k : true ≡ false = sym (last-at (isZero s) (length s) l last .1) ∙ first-nothing (isZero s) (length s - o) o q l b (omega (arith, last-at (isZero s) (length s) l last .0)) in
+          let y : _≡_ {A = ℕ} 0 1 = cc in absurd (omega arith)
+
+  pub same-refused : o ≤ l → (Agrees s l o name → ⊥) → sameBytes (textAt s o) name ≡ false
+  same-refused b n = same-other _ _ (λ e. n (agrees-same b e))
+
+  -- where there is room, and the zero byte, the bytes decide
+  pub same-bytes : o ≤ l → isClean name ≡ true → o + length name ≤ l → getD s (o + length name) 0 ≡ 0 → sameRun s o name ≡ sameBytes (textAt s o) name
+  unfolding sameRun
+  same-bytes b c r e = pick (sameRun s o name) refl
+    where
+      pick : (x : Bool) → sameBytes (take (length name) (drop o s)) name ≡ x → x ≡ sameBytes (textAt s o) name
+      pick true q = sym (same-agreed c (record { room = r; ends = e; bytes = same-known _ _ q }))
+      pick false q = sym (same-refused b (λ g. let k : true ≡ false = sym (same-equal _ _ (g .bytes)) ∙ q in let y : _≡_ {A = ℕ} 0 1 = cc in omega arith))
 
 -- what is known of a range that was told: there is no fault, it lies in the table, and holds the string's bytes
 pub record Told (s : List ℕ) (o : ℕ) (r : Range) : Type 0 where

@@ -1,3 +1,4 @@
 pub mod Search
 pub mod Laws
+pub mod Runs
 pub mod Sequences

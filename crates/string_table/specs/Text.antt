@@ -8,10 +8,12 @@
 -- textAt s o               the bytes of the string at o
 -- textRange s o            where they stand in the table
 -- sameBytes s t            whether two byte lists are equal
+-- sameRun t o name         whether the bytes of the name stand at o in t
+-- isClean name             no byte of the name is zero
 -- compared b               what a comparison answers
 -- Assumes nothing.
 use Prim.Native.Nat.{ℕ, zero, suc, _-_}
-use mathlib.Core.Bool.{Bool, true, false, cond, _&&_}
+use mathlib.Core.Bool.{Bool, true, false, cond, _&&_, not}
 use mathlib.Core.List.{List, [], _∷_}
 use lib.ListN.{length, getD, take, drop}
 use lib.Dec.{eqb, ltb, leb}
@@ -72,6 +74,13 @@ sameBytes [] [] = true
 sameBytes [] (b ∷ t) = false
 sameBytes (a ∷ s) [] = false
 sameBytes (a ∷ s) (b ∷ t) = eqb a b && sameBytes s t
+
+unfoldable pub sameRun : List ℕ → ℕ → List ℕ → Bool
+sameRun t o name = sameBytes (take (length name) (drop o t)) name
+
+unfoldable pub isClean : List ℕ → Bool
+isClean [] = true
+isClean (b ∷ s) = not (eqb b 0) && isClean s
 
 abbrev pub compared : Bool → Compared
 compared true = Same

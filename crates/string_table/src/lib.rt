@@ -1,14 +1,16 @@
 // Strings of a string table: where one ends, whether one stands at an offset, its bytes as a range, as UTF-8, and whether it is a given name.
 // Where many strings of one table are asked for, `last_zero` is asked once: then `fault_with` tells in one step whether a string
-// stands at an offset, and `same_at` compares it with a name without a search for its end.
+// stands at an offset, and `same_at` compares it with a name without a search for its end, eight bytes at a time.
 ghost use mathlib.Core.Path.{_≡_};
-ghost use Prim.Native.Nat.{_≤_};
+ghost use mathlib.Core.Bool.{true};
+ghost use Prim.Native.Nat.{_+_, _≤_};
 ghost use lib.ListN.{length};
 ghost use Rattle.endian.specs.Range.{answer};
 ghost use Rattle.parse.specs.declared.Found.{Found};
-ghost use Rattle.string_table.specs.Text.{endOf, lastZero, textFault, faultWith, textAt, textRange, sameBytes, compared};
+ghost use Rattle.string_table.specs.Text.{endOf, lastZero, textFault, faultWith, textAt, textRange, sameBytes, sameRun, isClean, compared};
 ghost use Rattle.string_table.specs.Utf8.{rowOf, pending, awaited, stepOf, wellFormed, utf8Fault};
 use endian::Fault;
+use endian::Order;
 use parse::Found;
 use parse::GotRange;
 use parse::Range;
@@ -101,13 +103,68 @@ pub fn text(t: &[u8], o: usize) -> GotRange
     }
 }
 
+// Whether no byte of a name is zero. A string of a table holds none, so a name that does is never one of its strings.
+pub fn is_clean(name: &[u8]) -> bool
+    ensures { λ r. ⌜ r ≡ isClean (now (name .entry)) ⌝ }
+{
+    let mut clean = true;
+    let mut i = 0;
+    while i < name.len() {
+        clean = clean & (name[i] != 0);
+        i += 1;
+    }
+    clean
+}
+
+// Whether the bytes of a name stand at o, a byte at a time, from the end backwards.
+fn same_bytes(t: &[u8], o: usize, name: &[u8]) -> bool
+    requires { ⌜ o + length (now name) ≤ length (now t) ⌝ }
+    ensures { λ r. ⌜ r ≡ sameRun (now (t .entry)) o (now (name .entry)) ⌝ }
+{
+    let mut k = name.len();
+    while k > 0 {
+        k -= 1;
+        if t[o + k] != name[k] {
+            return false;
+        }
+    }
+    true
+}
+
+// The same of a name of at least eight bytes, eight at a time. What is left at the front is compared as the first eight bytes,
+// some of which may have been compared before.
+fn same_words(t: &[u8], o: usize, name: &[u8]) -> bool
+    requires { ⌜ 8 ≤ length (now name) ⌝ ∗ ⌜ o + length (now name) ≤ length (now t) ⌝ }
+    ensures { λ r. ⌜ r ≡ sameRun (now (t .entry)) o (now (name .entry)) ⌝ }
+{
+    let mut k = name.len();
+    while k > 8 {
+        k -= 8;
+        if endian::u64_in(Order::Little, t, o + k) != endian::u64_in(Order::Little, name, k) {
+            return false;
+        }
+    }
+    endian::u64_in(Order::Little, t, o) == endian::u64_in(Order::Little, name, 0)
+}
+
+// Whether the bytes of a name stand at o.
+fn same_run(t: &[u8], o: usize, name: &[u8]) -> bool
+    requires { ⌜ o + length (now name) ≤ length (now t) ⌝ }
+    ensures { λ r. ⌜ r ≡ sameRun (now (t .entry)) o (now (name .entry)) ⌝ }
+{
+    if name.len() < 8 {
+        return same_bytes(t, o, name);
+    }
+    same_words(t, o, name)
+}
+
 // Whether the string at o is the name, in a table whose last zero byte stands at `last`, at or behind o.
 // The end is not searched for: the string can only be the name if a zero byte stands n bytes behind o. From there the comparison
-// goes backwards. A name holds no zero byte where it agrees, so agreement ends at the zero byte before at the latest. Two offsets
-// never share the place n bytes behind them, so all comparisons of one name with distinct offsets take together at most as many
-// turns as the table has bytes.
+// goes backwards. The name holds no zero byte, so agreement ends at the zero byte before at the latest. Two offsets never share
+// the place n bytes behind them, so all comparisons of one name with distinct offsets take together at most as many turns as the
+// table has bytes.
 pub fn same_at(t: &[u8], last: usize, o: usize, name: &[u8]) -> bool
-    requires { ⌜ lastZero (now t) ≡ Found.At last ⌝ ∗ ⌜ o ≤ last ⌝ }
+    requires { ⌜ lastZero (now t) ≡ Found.At last ⌝ ∗ ⌜ o ≤ last ⌝ ∗ ⌜ isClean (now name) ≡ true ⌝ }
     ensures { λ r. ⌜ r ≡ sameBytes (textAt (now (t .entry)) o) (now (name .entry)) ⌝ }
 {
     let n = name.len();
@@ -117,18 +174,7 @@ pub fn same_at(t: &[u8], last: usize, o: usize, name: &[u8]) -> bool
     if t[o + n] != 0 {
         return false;
     }
-    let mut k = n;
-    while k > 0 {
-        k -= 1;
-        let b = name[k];
-        if b == 0 {
-            return false;
-        }
-        if t[o + k] != b {
-            return false;
-        }
-    }
-    true
+    same_run(t, o, name)
 }
 
 // What a comparison of a string with a name answers.
@@ -139,14 +185,18 @@ pub enum Compared {
 }
 
 // The string at o compared with a name, in a table whose last zero byte is known. An offset where no string stands is refused.
-pub fn compare(t: &[u8], last: Found, o: usize, name: &[u8]) -> Compared
-    requires { ⌜ last ≡ lastZero (now t) ⌝ }
+// Whether the name is clean is told, not looked for, as many strings are compared with one name.
+pub fn compare(t: &[u8], last: Found, o: usize, name: &[u8], clean: bool) -> Compared
+    requires { ⌜ last ≡ lastZero (now t) ⌝ ∗ ⌜ clean ≡ isClean (now name) ⌝ }
     ensures { λ r. ⌜ r ≡ answer (textFault (now (t .entry)) o)
         (compared (sameBytes (textAt (now (t .entry)) o) (now (name .entry)))) Compared.Refused ⌝ }
 {
     let f = fault_with(last, t.len(), o);
     if f.number != 0 {
         return Compared::Refused(f);
+    }
+    if !clean {
+        return Compared::Other;
     }
     match last {
         Found::At(l) => {

@@ -9,11 +9,11 @@ use Rattle.hash.proofs.walk.Statement.{statement}
 use Rattle.hash.proofs.walk.Tie as tie
 
 abbrev Inv-loop : tie.InvT-loop
-Inv-loop class order h d syms whole strs last name start i₀ left₀ i left =
+Inv-loop class order h d syms whole strs last name clean start i₀ left₀ i left =
     walkOf class order h syms strs name left i ≡ walkOf class order h syms strs name (d .chains) start
 
 abbrev μ-loop : tie.MeasureT-loop
-μ-loop class order h d syms whole strs last name start i₀ left₀ i left = left
+μ-loop class order h d syms whole strs last name clean start i₀ left₀ i left = left
 
 loop-holds : tie.Need-loop-holds Inv-loop μ-loop
 loop-holds c = refl

@@ -7,7 +7,7 @@ use Rattle.lookup.proofs.is_named.Statement.{statement}
 use Rattle.lookup.proofs.is_named.Tie as tie
 
 returns : tie.Need-returns
-returns c = c .same-at .ensures ∙ named-there _ _ _ _ (c .before .before .before .before .pre .0) (c .before .if1 .taken) (c .before .before .before .before .pre .1)
+returns c = c .same-at .ensures ∙ named-there _ _ _ _ (c .before .before .before .before .pre .0) (c .before .if1 .taken) (c .before .before .before .before .pre .1 .0)
 
 returns-2 : tie.Need-returns-2
 returns-2 c = sym (named-beyond _ _ _ _ (c .before .before .before .pre .0) (c .if1 .left))

@@ -40,7 +40,7 @@ u32-in-requires : tie.Need-u32-in-requires Inv-loop μ-loop
 u32-in-requires c κs = omega (arith, held c, c .before .before .before .before .before .pre .0)
 
 is-named-requires : tie.Need-is-named-requires Inv-loop μ-loop
-is-named-requires c κs = (c .before .before .before .before .before .before .before .pre .1 .0, c .before .before .before .before .before .before .before .pre .1 .1)
+is-named-requires c κs = c .before .before .before .before .before .before .before .pre .1
 
 returns : tie.Need-returns Inv-loop μ-loop
 unfolding firstNamed named
