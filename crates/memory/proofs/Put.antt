@@ -1,5 +1,4 @@
--- The laws of `put`: the bytes of a memory in which a run was put, its length, runs that are put
--- behind or over each other.
+-- The laws of `put`: the bytes of a memory in which a run was put, its length, runs put behind or over each other.
 -- Assumes nothing.
 use Prim.Native.Nat.{ℕ, _+_, _-_, _≤_, _<_}
 use native.Mathlib.Nat.{add-assoc}

@@ -1,7 +1,6 @@
 -- `load_image::carry_within` meets its contract: the gaps zeroed and the bytes copied, by `carried-gaps`. Assumes nothing.
 use Prim.Native.Nat.{_+_, _-_}
 use native.Mathlib.Omega.{arith}
-use mathlib.Core.Path.{_≡_}
 use Rattle.load_image.proofs.Laws.{carried-gaps}
 use borrow.Author.Needs.{needs}
 use Rattle.load_image.proofs.carry_within.Statement.{statement}
