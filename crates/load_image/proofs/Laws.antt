@@ -1,4 +1,4 @@
--- The laws of carrying out: what an answer of 0 says, and the two parts of one record as the code leaves them.
+-- The laws of carrying out: what an answer of 0 says, and the parts of one record as the code leaves them.
 -- Assumes nothing.
 use Prim.Native.Nat.{ℕ, zero, suc, _+_, _-_, _*_, _/_, _≤_, _<_}
 use native.Mathlib.Numerals.{add-one}
@@ -12,13 +12,14 @@ use lib.Dec.{leb, ltb, eqb}
 use borrow.Author.Tests.{leb-true, le-leb, ltb-false, le-ltb, eqb-true, eq-eqb, not-false}
 use borrow.Rule.Slice.PartMut.{putMid}
 use Rattle.memory.specs.Run.{put}
-use Rattle.memory.proofs.Put.{mid-put, length-put}
+use Rattle.memory.proofs.Put.{mid-put, length-put, put-gaps}
 use Rattle.records.specs.Record.{recordAt}
 use Rattle.records.specs.declared.Record.{Record}
 use Rattle.load_rules.specs.Rules.{anyBelow}
 use Rattle.load_rules.specs.declared.Window.{Window}
 use Rattle.load_rules.proofs.Tests.{and-true, nand-false, none-at, none-of}
 use Rattle.load_image.specs.Carry.{astray, beyond, wrong, wrongAt, carryNumber, carried, carriedBelow, Fitted}
+use Rattle.load_image.specs.Pieces.{Neat}
 
 -- ---- a table that is not refused
 
@@ -77,19 +78,48 @@ carries w flen t n mlen s =
 pub length-part : (x n : ℕ) (f : List ℕ) → x + n ≤ length f → length (take n (drop x f)) ≡ n
 length-part x n f h = length-take-le n (drop x f) (rw length-drop (omega arith))
 
--- as the code leaves its two parts
-pub carried-parts : (start : ℕ) (f : List ℕ) (r : Record) (m : List ℕ) → Fitted start (length m) (length f) r → (k l i : ℕ) (z v : List ℕ)
-    → k ≡ r .len → l ≡ r .count → i ≡ r .count → z ≡ replicate (length (take k (drop (r .page - start) m))) 0 → v ≡ take i (drop (r .from) f)
-    → putMid (r .at - start) l (putMid (r .page - start) k m z) v ≡ carried start f r m
-unfolding carried
-carried-parts start f r m p k l i z v hk hl hi hz hv =
-    let lk : length (take k (drop (r .page - start) m)) ≡ k = length-part (r .page - start) k m (omega (arith, p .page-high)) in
-    let ez : z ≡ replicate (r .len) 0 = hz ∙ ap (λ (n : ℕ). replicate n 0) (lk ∙ hk) in
-    let ev : v ≡ take (r .count) (drop (r .from) f) = hv ∙ ap (λ (n : ℕ). take n (drop (r .from) f)) hi in
-    let lz : length z ≡ k = ap length ez ∙ length-replicate (r .len) 0 ∙ sym hk in
-    let lv : length v ≡ l = ap length ev ∙ length-part (r .from) (r .count) f (p .in-file) ∙ sym hl in
-    mid-put (r .at - start) l (putMid (r .page - start) k m z) v lv
-    ∙ ap₂ (λ (x y : List ℕ). put (r .at - start) x y) ev (mid-put (r .page - start) k m z lz ∙ ap (λ (x : List ℕ). put (r .page - start) x m) ez)
+-- a part as the code leaves it: zeroed, or copied from n bytes of the file
+zeroed : (a k : ℕ) (m z : List ℕ) → a + k ≤ length m → z ≡ replicate (length (take k (drop a m))) 0 → putMid a k m z ≡ put a (replicate k 0) m
+zeroed a k m z h e =
+    let all : z ≡ replicate k 0 = e ∙ ap (λ (n : ℕ). replicate n 0) (length-part a k m h) in
+    mid-put a k m z (ap length all ∙ length-replicate k 0) ∙ ap (λ (x : List ℕ). put a x m) all
+
+copied : (a k i n x : ℕ) (f m v : List ℕ) → k ≡ n → i ≡ n → x + n ≤ length f → v ≡ take i (drop x f) → putMid a k m v ≡ put a (take n (drop x f)) m
+copied a k i n x f m v hk hi h e =
+    let all : v ≡ take n (drop x f) = e ∙ ap (λ (j : ℕ). take j (drop x f)) hi in
+    mid-put a k m v (ap length all ∙ length-part x n f h ∙ sym hk) ∙ ap (λ (y : List ℕ). put a y m) all
+
+module _ (start : ℕ) (f : List ℕ) (r : Record) (m : List ℕ) where
+  -- as `carry_plain` leaves its two parts
+  pub carried-parts : Fitted start (length m) (length f) r → (k l i : ℕ) (z v : List ℕ) → k ≡ r .len → l ≡ r .count → i ≡ r .count
+      → z ≡ replicate (length (take k (drop (r .page - start) m))) 0 → v ≡ take i (drop (r .from) f)
+      → putMid (r .at - start) l (putMid (r .page - start) k m z) v ≡ carried start f r m
+  unfolding carried
+  carried-parts p k l i z v hk hl hi hz hv =
+      copied (r .at - start) l i (r .count) (r .from) f (putMid (r .page - start) k m z) v hl hi (p .in-file) hv
+      ∙ ap (λ (x : List ℕ). put (r .at - start) (take (r .count) (drop (r .from) f)) x) (zeroed (r .page - start) k m z (omega (arith, p .page-high)) hz ∙ ap (λ (n : ℕ). put (r .page - start) (replicate n 0) m) hk)
+
+  -- as `carry_within` leaves its three: k zeros in front of the bytes, j behind them
+  pub carried-gaps : Neat start (length m) (length f) r → (k l i j : ℕ) (z v y : List ℕ) → r .page - start + k ≡ r .at - start → l ≡ r .count → i ≡ r .count
+      → r .at - start + r .count + j ≡ r .page - start + r .len
+      → z ≡ replicate (length (take k (drop (r .page - start) m))) 0 → v ≡ take i (drop (r .from) f)
+      → y ≡ replicate (length (take j (drop (r .at - start + r .count) (putMid (r .at - start) l (putMid (r .page - start) k m z) v)))) 0
+      → putMid (r .at - start + r .count) j (putMid (r .at - start) l (putMid (r .page - start) k m z) v) y ≡ carried start f r m
+  unfolding carried
+  carried-gaps p k l i j z v y hk hl hi hj hz hv hy =
+      let a = r .page - start in
+      let c = r .at - start in
+      let xs = take (r .count) (drop (r .from) f) in
+      let long : length xs ≡ r .count = length-part (r .from) (r .count) f (p .fits .in-file) in
+      let zs : List ℕ = replicate k 0 in
+      let many : length zs ≡ k = length-replicate k 0 in
+      let two : putMid c l (putMid a k m z) v ≡ put c xs (put a zs m)
+      = copied c l i (r .count) (r .from) f (putMid a k m z) v hl hi (p .fits .in-file) hv ∙ ap (λ (x : List ℕ). put c xs x) (zeroed a k m z (omega (arith, p .fits .at-high)) hz) in
+      let first : length (put a zs m) ≡ length m = length-put a zs m (omega (arith, p .fits .at-high)) in
+      let same : length (put c xs (put a zs m)) ≡ length m = length-put c xs (put a zs m) (omega (arith, p .fits .at-high)) ∙ first in
+      zeroed (c + r .count) j (putMid c l (putMid a k m z) v) y (rw two (omega (arith, p .fits .page-high))) hy
+      ∙ ap (λ (x : List ℕ). put (c + r .count) (replicate j 0) x) two
+      ∙ sym (put-gaps a (r .len) c (c + r .count) k j xs m hk (omega arith) hj (p .fits .page-high))
 
 -- a turn of the loop
 pub carry-turn : (start : ℕ) (f t : List ℕ) (k : ℕ) (m₀ m m′ : List ℕ) (r : Record) → r ≡ recordAt t k → m ≡ carriedBelow start f t k m₀ → m′ ≡ carried start f r m

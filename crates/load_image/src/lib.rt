@@ -8,6 +8,7 @@ ghost use Rattle.load_rules.specs.Rules.{anyBelow};
 ghost use Rattle.load_plan.specs.Plan.{windowOf};
 ghost use Rattle.load_image.specs.Carry.{astray, beyond, wrongAt, wrong, carryNumber, Fitted, carried, carriedBelow, CarriedOut};
 ghost use Rattle.load_image.specs.Image.{Outcome};
+ghost use Rattle.load_image.specs.Pieces.{Neat};
 use endian::Fault;
 use load_plan::Answer;
 use load_plan::Refusal;
@@ -61,7 +62,7 @@ fn refuse(w: Window, flen: u64, t: &[u8], n: usize, mlen: u64) -> u8
 }
 
 // All bytes of a record's pages become 0, then its file bytes are put in place.
-fn carry_one(start: u64, f: &[u8], r: Record, m: &mut [u8])
+fn carry_plain(start: u64, f: &[u8], r: Record, m: &mut [u8])
     requires { ⌜ Fitted start (length (now m)) (length (now f)) r ⌝ }
     ensures { λ _. ⌜ now (m .exit) ≡ carried start (now (f .entry)) r (now (m .entry)) ⌝ }
 {
@@ -73,6 +74,36 @@ fn carry_one(start: u64, f: &[u8], r: Record, m: &mut [u8])
     let x = r.from as usize;
     let y = x + r.count as usize;
     memory::copy(&mut m[c..d], &f[x..y]);
+}
+
+// The same for a record whose file bytes lie in its pages: only the gaps in front of them and behind them are zeroed, so
+// that no byte is written twice.
+fn carry_within(start: u64, f: &[u8], r: Record, m: &mut [u8])
+    requires { ⌜ Neat start (length (now m)) (length (now f)) r ⌝ }
+    ensures { λ _. ⌜ now (m .exit) ≡ carried start (now (f .entry)) r (now (m .entry)) ⌝ }
+{
+    let a = (r.page - start) as usize;
+    let c = (r.at - start) as usize;
+    memory::zero(&mut m[a..c]);
+    let d = c + r.count as usize;
+    let x = r.from as usize;
+    let y = x + r.count as usize;
+    memory::copy(&mut m[c..d], &f[x..y]);
+    let e = a + r.len as usize;
+    memory::zero(&mut m[d..e]);
+}
+
+// The bytes of a plan's records lie in their pages; a table that is no plan of ours may have others. The sums are of
+// offsets in the memory, so they don't wrap.
+fn carry_one(start: u64, f: &[u8], r: Record, m: &mut [u8])
+    requires { ⌜ Fitted start (length (now m)) (length (now f)) r ⌝ }
+    ensures { λ _. ⌜ now (m .exit) ≡ carried start (now (f .entry)) r (now (m .entry)) ⌝ }
+{
+    if (r.page <= r.at) & (r.at - start + r.count <= r.page - start + r.len) {
+        carry_within(start, f, r, m);
+    } else {
+        carry_plain(start, f, r, m);
+    }
 }
 
 fn carry_all(w: Window, f: &[u8], t: &[u8], n: usize, m: &mut [u8])

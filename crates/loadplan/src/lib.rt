@@ -366,6 +366,23 @@ pub extern "C" fn loadplan_symbols(
 }
 
 #[no_mangle]
+pub extern "C" fn loadplan_packed_symbols(
+    class: u8,
+    order: u8,
+    table: &[u8],
+    from: usize,
+    out: &mut [u64],
+) -> usize
+    ensures { λ r. ⌜ WalkTold Kind.Packed (now (table .entry)) from (now (out .entry)) (now (out .exit)) r (kindOf class order) ⌝ }
+{
+    let k = replies::kind_of(class, order);
+    match k {
+        Ident::Refused(_) => 0,
+        Ident::Is(c, o) => walks::walk(Kind::Packed, c, o, table, from, out),
+    }
+}
+
+#[no_mangle]
 pub extern "C" fn loadplan_rels(
     class: u8,
     order: u8,

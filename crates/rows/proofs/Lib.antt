@@ -1,3 +1,4 @@
 -- The crate's laws, a file each.
 -- Assumes nothing.
+pub mod Packed
 pub mod Twos

@@ -1,7 +1,7 @@
 // The entries as rows of numbers, as they cross to C: the values in the order in which include/loadplan.h lists them.
 // Signed numbers cross as two's complement of 64 bits.
 ghost use mathlib.Core.Path.{_≡_};
-ghost use Rattle.rows.specs.Row.{twos, sectionRow, segmentRow, symbolRow, relRow, relaRow, dynRow};
+ghost use Rattle.rows.specs.Row.{twos, sectionRow, segmentRow, symbolRow, packedRow, relRow, relaRow, dynRow};
 use dynamic::Dyn;
 use relocation::Rel;
 use relocation::Rela;
@@ -59,6 +59,18 @@ pub fn symbol_row(s: Symbol) -> [u64; 6]
         s.shndx as u64,
         s.info as u64,
         s.other as u64,
+        s.value,
+        s.size,
+    ]
+}
+
+// A symbol in three values. The upper half of the first is made in 32 bits: of the shapes measured, that compiles best.
+pub fn packed_row(s: Symbol) -> [u64; 3]
+    ensures { λ r. ⌜ r ≡ packedRow s ⌝ }
+{
+    let rest = (s.info as u32) + (s.other as u32) * 256 + (s.shndx as u32) * 65536;
+    [
+        (s.name as u64) + (rest as u64) * 4294967296,
         s.value,
         s.size,
     ]

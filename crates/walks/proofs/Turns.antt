@@ -15,7 +15,7 @@ use Rattle.parse.proofs.Laws.{inside}
 use Rattle.memory.specs.Run.{put}
 use Rattle.memory.proofs.Put.{put-next}
 use Rattle.walks.specs.declared.Kind.{Kind}
-use Rattle.walks.specs.declared.Kind.the-variants.{Section, Segment, Symbol, Rel, Rela, Dyn}
+use Rattle.walks.specs.declared.Kind.the-variants.{Section, Segment, Symbol, Packed, Rel, Rela, Dyn}
 use Rattle.walks.specs.Walk.{sizeIn, widthOf, rowIn, rowAt, rowsFrom, batchOf}
 
 -- ---- the kinds
@@ -27,6 +27,8 @@ some-bytes Segment Elf32 = omega arith
 some-bytes Segment Elf64 = omega arith
 some-bytes Symbol Elf32 = omega arith
 some-bytes Symbol Elf64 = omega arith
+some-bytes Packed Elf32 = omega arith
+some-bytes Packed Elf64 = omega arith
 some-bytes Rel Elf32 = omega arith
 some-bytes Rel Elf64 = omega arith
 some-bytes Rela Elf32 = omega arith
@@ -38,6 +40,7 @@ pub some-values : (k : Kind) → 0 < widthOf k
 some-values Section = omega arith
 some-values Segment = omega arith
 some-values Symbol = omega arith
+some-values Packed = omega arith
 some-values Rel = omega arith
 some-values Rela = omega arith
 some-values Dyn = omega arith
@@ -46,6 +49,7 @@ row-width : (k : Kind) (c : Class) (e : Order) (t : List ℕ) (o : ℕ) → leng
 row-width Section c e t o = refl
 row-width Segment c e t o = refl
 row-width Symbol c e t o = refl
+row-width Packed c e t o = refl
 row-width Rel c e t o = refl
 row-width Rela c e t o = refl
 row-width Dyn c e t o = refl

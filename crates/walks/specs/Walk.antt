@@ -19,14 +19,15 @@ use Rattle.segment.specs.Layout.{segmentAt}
 use Rattle.symbol.specs.Layout.{symbolAt}
 use Rattle.relocation.specs.Layout.{relAt, relaAt}
 use Rattle.dynamic.specs.Layout.{dynAt}
-use Rattle.rows.specs.Row.{sectionRow, segmentRow, symbolRow, relRow, relaRow, dynRow}
+use Rattle.rows.specs.Row.{sectionRow, segmentRow, symbolRow, packedRow, relRow, relaRow, dynRow}
 use Rattle.walks.specs.declared.Kind.{Kind}
-use Rattle.walks.specs.declared.Kind.the-variants.{Section, Segment, Symbol, Rel, Rela, Dyn}
+use Rattle.walks.specs.declared.Kind.the-variants.{Section, Segment, Symbol, Packed, Rel, Rela, Dyn}
 
 abbrev pub sizeIn : Kind → Class → ℕ
 sizeIn Section c = sizeOf section-header c
 sizeIn Segment c = sizeOf program-header c
 sizeIn Symbol c = sizeOf symbol c
+sizeIn Packed c = sizeOf symbol c
 sizeIn Rel c = sizeOf rel c
 sizeIn Rela c = sizeOf rela c
 sizeIn Dyn c = sizeOf dynamic c
@@ -35,6 +36,7 @@ abbrev pub widthOf : Kind → ℕ
 widthOf Section = 10
 widthOf Segment = 8
 widthOf Symbol = 6
+widthOf Packed = 3
 widthOf Rel = 3
 widthOf Rela = 4
 widthOf Dyn = 2
@@ -43,6 +45,7 @@ abbrev pub rowIn : Kind → Class → Order → List ℕ → ℕ → List ℕ
 rowIn Section c e t o = sectionRow (sectionAt c e t o)
 rowIn Segment c e t o = segmentRow (segmentAt c e t o)
 rowIn Symbol c e t o = symbolRow (symbolAt c e t o)
+rowIn Packed c e t o = packedRow (symbolAt c e t o)
 rowIn Rel c e t o = relRow (relAt c e t o)
 rowIn Rela c e t o = relaRow (relaAt c e t o)
 rowIn Dyn c e t o = dynRow (dynAt c e t o)

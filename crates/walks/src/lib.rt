@@ -14,6 +14,7 @@ pub enum Kind {
     Section,
     Segment,
     Symbol,
+    Packed, // symbols, three values each
     Rel,
     Rela,
     Dyn,
@@ -27,6 +28,7 @@ fn size_of(kind: Kind, class: Class) -> usize
         Kind::Section => section::size_of(class),
         Kind::Segment => segment::size_of(class),
         Kind::Symbol => symbol::size_of(class),
+        Kind::Packed => symbol::size_of(class),
         Kind::Rel => relocation::rel_size_of(class),
         Kind::Rela => relocation::rela_size_of(class),
         Kind::Dyn => dynamic::size_of(class),
@@ -41,6 +43,7 @@ fn width_of(kind: Kind) -> usize
         Kind::Section => 10,
         Kind::Segment => 8,
         Kind::Symbol => 6,
+        Kind::Packed => 3,
         Kind::Rel => 3,
         Kind::Rela => 4,
         Kind::Dyn => 2,
@@ -137,6 +140,11 @@ fn put_entry(kind: Kind, class: Class, order: Order, t: &[u8], o: usize, out: &m
             out,
             at,
             rows::symbol_row(symbol::symbol_in(class, order, t, o)),
+        ),
+        Kind::Packed => put3(
+            out,
+            at,
+            rows::packed_row(symbol::symbol_in(class, order, t, o)),
         ),
         Kind::Rel => put3(
             out,

@@ -1,22 +1,25 @@
--- `load_image::carry_one` meets its contract: the pages zeroed, then the bytes copied, by `carried-parts`. Assumes nothing.
+-- `load_image::carry_one` meets its contract: the test says that the bytes lie in the pages. Assumes nothing.
 use Prim.Native.Nat.{_+_, _-_}
 use native.Mathlib.Omega.{arith}
-use mathlib.Core.Path.{_≡_}
-use Rattle.load_image.proofs.Laws.{carried-parts}
+use lib.Dec.{leb}
+use borrow.Author.Tests.{leb-true}
+use Rattle.load_rules.proofs.Tests.{and-true}
 use borrow.Author.Needs.{needs}
 use Rattle.load_image.proofs.carry_one.Statement.{statement}
 use Rattle.load_image.proofs.carry_one.Tie as tie
 
-returns : tie.Need-returns
-returns c =
-    let d = c .before .before .before .before .before .before .before .before .before .before .before .before .before in
+carry-within-requires : tie.Need-carry-within-requires
+carry-within-requires c κs =
+    let d = c .before .before .before .before .before .before .before .before .before in
+    let p = d .pre in
     let r = d .args .r in
-    let start = d .args .start in
-    let k : r .page - start + r .len - (r .page - start) ≡ r .len = omega arith in
-    let l : r .at - start + r .count - (r .at - start) ≡ r .count = omega arith in
-    let i : r .from + r .count - r .from ≡ r .count = omega arith in
-    carried-parts start (d .args .f .now) r (d .args .m .now) (d .pre) (r .page - start + r .len - (r .page - start)) (r .at - start + r .count - (r .at - start)) (r .from + r .count - r .from)
-    (c .before .before .before .before .before .before .before .before .zero .last .0) (c .before .before .copy .last .0) k l i (c .before .before .before .before .before .before .before .before .zero .ensures) (c .before .before .copy .ensures)
+    let s = d .args .start in
+    let t = and-true (leb (r .page) (r .at)) (leb (r .at - s + r .count) (r .page - s + r .len)) (c .before .if1 .taken) in
+    record {
+      fits = p;
+      front = leb-true _ _ (t .0);
+      back = omega (arith, leb-true (r .at - s + r .count) (r .page - s + r .len) (t .1), p .page-low, p .at-low);
+    }
 
 pub carry-one-spec : {M : Type 1} → statement M
 carry-one-spec =
@@ -26,17 +29,9 @@ carry-one-spec =
     (λ c. search needs)
     (λ c. search needs)
     (λ c. search needs)
-    (λ c. search needs)
+    carry-within-requires
     (λ c κs. search needs)
     (λ c. search needs)
     (λ c. search needs)
     (λ c. search needs)
-    (λ c. search needs)
-    (λ c. search needs)
-    (λ c. search needs)
-    (λ c. search needs)
-    (λ c. search needs)
-    (λ c. search needs)
-    (λ c κs. search needs)
-    (λ c. search needs)
-    returns)
+    (λ c. search needs))
