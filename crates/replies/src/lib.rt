@@ -346,11 +346,7 @@ pub fn put_opened(o: Opened, d: &[u8], out: &mut [u64; 23]) -> u32
             let order = elf.order;
             let s = elf.sections;
             let p = elf.segments;
-            *out = head_row(
-                file::header_in(class, order, d),
-                table_row(s),
-                table_row(p),
-            );
+            *out = head_row(file::header_in(class, order, d), table_row(s), table_row(p));
             0
         }
     }

@@ -31,6 +31,19 @@ impl Symbol {
         }
     }
 
+    /// The symbol of a row of a walk: name, info, other and section index stand in one value, lowest first.
+    #[inline]
+    fn of_packed(row: &[u64; 3]) -> Self {
+        Symbol {
+            st_name: row[0] as u32,
+            st_shndx: (row[0] >> 48) as u16,
+            st_info: (row[0] >> 32) as u8,
+            st_other: (row[0] >> 40) as u8,
+            st_value: row[1],
+            st_size: row[2],
+        }
+    }
+
     /// Whether the symbol is defined elsewhere: it belongs to no section.
     pub fn is_undefined(&self) -> bool {
         self.st_shndx == abi::SHN_UNDEF
@@ -52,4 +65,4 @@ impl Symbol {
     }
 }
 
-entry_of_a_table!(Symbol, 16 or 24 bytes, symbol of Symbol::of, symbols of Symbol::of: 6);
+entry_of_a_table!(Symbol, 16 or 24 bytes, symbol of Symbol::of, packed_symbols of Symbol::of_packed: 3);

@@ -128,6 +128,15 @@ extern "C" {
         out: *mut u64,
         out_len: usize,
     ) -> usize;
+    fn loadplan_packed_symbols(
+        class_: u8,
+        order: u8,
+        table: *const u8,
+        table_len: usize,
+        from: usize,
+        out: *mut u64,
+        out_len: usize,
+    ) -> usize;
     fn loadplan_rels(
         class_: u8,
         order: u8,
@@ -292,6 +301,13 @@ of_a_table! {
     rela = loadplan_rela, relas = loadplan_relas -> 4;
     /// Dynamic entry `i` of a table.
     dyn_ = loadplan_dyn, dyns = loadplan_dyns -> 2;
+}
+
+/// The same as [symbols] with three values an entry, name, info, other and section index packed into the first.
+#[inline]
+pub fn packed_symbols(class: u8, order: u8, table: &[u8], from: usize, out: &mut [u64]) -> usize {
+    // SAFETY: each pointer and the length behind it are one slice's.
+    unsafe { loadplan_packed_symbols(class, order, table.as_ptr(), table.len(), from, out.as_mut_ptr(), out.len()) }
 }
 
 /// The first section with that name.

@@ -38,7 +38,11 @@ fn open(bytes: &[u8], _: &[Vec<u8>]) -> u64 {
 fn walk(bytes: &[u8], _: &[Vec<u8>]) -> u64 {
     let found = file(bytes).dynamic_symbol_table().expect("its tables are sound");
     let (symbols, _) = found.expect("there are dynamic symbols");
-    symbols.iter().fold(0, |sum: u64, symbol| sum.wrapping_add(symbol.st_value).wrapping_add(symbol.st_size))
+    let mut sum = 0u64;
+    for symbol in symbols.iter() {
+        sum = sum.wrapping_add(symbol.st_value).wrapping_add(symbol.st_size);
+    }
+    sum
 }
 
 /// Every name, by the SysV hash table.

@@ -1,0 +1,167 @@
+//! The program loadplan-bench: builds the drivers, runs them in turn on one core, and prints what each took.
+//!
+//! It tests nothing but the sums: drivers that do not do the same work end it with status 1. Times fail no build.
+
+mod drivers;
+mod loading;
+mod table;
+
+use std::path::{Path, PathBuf};
+use std::process::ExitCode;
+
+use loadplan_command::arguments::Arguments;
+use loadplan_command::Fault;
+use loadplan_compare::places;
+
+use drivers::{Driver, Measured};
+use table::Table;
+
+const HELP: &str = "\
+usage: loadplan-bench [--shared FOLDER] [--runs COUNT] [--turns COUNT]
+
+Times opening, walking and finding through the port's Rust and C interfaces beside the crate elf and a loop in C, counts
+instructions, and times planning and carrying out. Prints tables as docs/SPEED.md has them.
+
+  --shared FOLDER   where the crate's text and the baseline are (../shared beside the repository)
+  --runs COUNT      how often each program runs; they take turns (7)
+  --turns COUNT     how often a program does each phase; the least time counts (40)
+
+Exit status: 0 measured; 1 the programs' sums differ; 2 wrong use, or something that is measured can't be built.
+";
+
+/// The symbols of the baseline's files, and of those that show how the time grows.
+const SYMBOLS: u64 = 60_000;
+const GROWN: u64 = 10 * SYMBOLS;
+
+struct Bench {
+    drivers: Vec<Driver>,
+    folder: PathBuf,
+    runs: u32,
+    turns: u32,
+}
+
+fn main() -> ExitCode {
+    let mut arguments = Arguments::new(std::env::args_os().skip(1));
+    if arguments.flag("--help") {
+        print!("{HELP}");
+        return ExitCode::SUCCESS;
+    }
+    match run(arguments) {
+        Ok(true) => ExitCode::SUCCESS,
+        Ok(false) => ExitCode::from(1),
+        Err(Fault::OutputClosed) => ExitCode::SUCCESS,
+        Err(Fault::WrongUse(message)) => {
+            eprintln!("loadplan-bench: {message}");
+            ExitCode::from(2)
+        }
+    }
+}
+
+fn number(arguments: &mut Arguments, name: &str, otherwise: u32) -> Result<u32, Fault> {
+    match arguments.value(name)? {
+        Some(word) => word.parse().map_err(|_| Fault::new(format_args!("{name} needs a number"))),
+        None => Ok(otherwise),
+    }
+}
+
+fn run(mut arguments: Arguments) -> Result<bool, Fault> {
+    let shared = arguments.value("--shared")?.map_or_else(places::shared, PathBuf::from);
+    let (runs, turns) = (number(&mut arguments, "--runs", 7)?, number(&mut arguments, "--turns", 40)?);
+    arguments.files()?;
+    let folder = places::repository().join("host/target/bench");
+    let bench = Bench { drivers: drivers::build(&shared, &folder)?, folder, runs, turns };
+    let mut agreed = true;
+    for file in ["big64.so", "big32.so"] {
+        agreed &= bench.phases(&bench.folder.join("bench").join(file), file)?;
+    }
+    for file in ["big64.so", "big32.so"] {
+        bench.counts(&bench.folder.join("bench").join(file), file)?;
+    }
+    agreed &= bench.growth(&shared)?;
+    loading::plans().print();
+    loading::carrying_out().print();
+    Ok(agreed)
+}
+
+impl Bench {
+    /// What each driver took for a file, in turns; `None` where a driver does not read it.
+    fn measure(&self, file: &Path) -> Result<Vec<Option<Measured>>, Fault> {
+        let mut measured: Vec<Option<Measured>> = self.drivers.iter().map(|_| None).collect();
+        for _ in 0..self.runs {
+            for (driver, least) in self.drivers.iter().zip(&mut measured) {
+                if driver.reads(file) {
+                    let once = driver.run(file, self.turns)?;
+                    *least = Some(match least.take() {
+                        Some(before) => before.least(once),
+                        None => once,
+                    });
+                }
+            }
+        }
+        Ok(measured)
+    }
+
+    /// Times of the phases and their ratios to the crate and to C with tests; whether all sums agree.
+    fn phases(&self, file: &Path, name: &str) -> Result<bool, Fault> {
+        let measured = self.measure(file)?;
+        let of = |wanted: &str| self.drivers.iter().position(|driver| driver.name == wanted);
+        let (first, c) = (of(drivers::CRATE), of(drivers::C));
+        let base = |k: Option<usize>| k.and_then(|k| measured[k].as_ref());
+        let mut table = Table::new(&format!("{name}, {SYMBOLS} symbols: least time of a phase"), "program");
+        for phase in drivers::PHASES {
+            table.columns(&[&format!("{phase} ns"), "/crate", "/C"]);
+        }
+        for (driver, times) in self.drivers.iter().zip(&measured) {
+            let Some(times) = times else { continue };
+            let cells = drivers::PHASES.iter().flat_map(|phase| {
+                let time = times.time(phase);
+                let ratio = |other: Option<&Measured>| table::ratio(time, other.and_then(|other| other.time(phase)));
+                [table::time(time), ratio(base(first)), ratio(base(c))]
+            });
+            table.row(&driver.name, cells.collect());
+        }
+        table.print();
+        Ok(drivers::agree(&self.drivers, &measured, name))
+    }
+
+    /// Instructions of each phase, by callgrind.
+    fn counts(&self, file: &Path, name: &str) -> Result<(), Fault> {
+        let mut table = Table::new(&format!("{name}: instructions of a phase"), "program");
+        table.columns(&drivers::PHASES);
+        for driver in self.drivers.iter().filter(|driver| driver.reads(file)) {
+            let Some(nothing) = driver.count(file, "none") else {
+                println!("instructions: not counted, valgrind is not there\n");
+                return Ok(());
+            };
+            let count = |phase: &&str| match driver.has(phase) {
+                true => driver.count(file, phase).map_or("-".to_string(), |n| n.saturating_sub(nothing).to_string()),
+                false => "-".to_string(),
+            };
+            table.row(&driver.name, drivers::PHASES.iter().map(count).collect());
+        }
+        table.print();
+        Ok(())
+    }
+
+    /// Nanoseconds a symbol at the baseline's size and at ten times as many.
+    fn growth(&self, shared: &Path) -> Result<bool, Fault> {
+        let grown = drivers::grown_file(shared, &self.folder, GROWN)?;
+        let small = self.measure(&self.folder.join("bench/big64.so"))?;
+        let large = self.measure(&grown)?;
+        let mut table = Table::new(&format!("growth: nanoseconds a symbol, {SYMBOLS} and {GROWN} symbols"), "program");
+        for phase in ["walk", "find"] {
+            table.columns(&[&format!("{phase} {SYMBOLS}"), &format!("{phase} {GROWN}")]);
+        }
+        for (k, driver) in self.drivers.iter().enumerate() {
+            let (Some(small), Some(large)) = (&small[k], &large[k]) else { continue };
+            let each = |measured: &Measured, phase, symbols: u64| {
+                table::small(measured.time(phase).map(|ns| ns / symbols as f64))
+            };
+            let cells =
+                ["walk", "find"].iter().flat_map(|phase| [each(small, phase, SYMBOLS), each(large, phase, GROWN)]);
+            table.row(&driver.name, cells.collect());
+        }
+        table.print();
+        Ok(drivers::agree(&self.drivers, &large, "the grown file"))
+    }
+}
