@@ -106,8 +106,8 @@ uint32_t loadplan_dyn(uint8_t class_, uint8_t order, const uint8_t *table, size_
 
 /* A walk, in batches: as many whole entries from number `from` on as there are and as `out` has room for, one behind the
  * other, the same values an entry. Answers how many; the rest of out is as it was. A class or an order that is neither
- * 1 nor 2 has no entries. _packed_symbols: three values an entry, the first with the name in bits 0 to 31, info in 32 to
- * 39, other in 40 to 47, shndx in 48 to 63; value; size. */
+ * 1 nor 2 has no entries. _packed_symbols: four values an entry: the name; info in bits 0 to 7, other in 8 to 15, shndx in
+ * 16 to 31; value; size. */
 size_t loadplan_sections(uint8_t class_, uint8_t order, const uint8_t *table, size_t table_len, size_t from, uint64_t *out, size_t out_len);
 size_t loadplan_segments(uint8_t class_, uint8_t order, const uint8_t *table, size_t table_len, size_t from, uint64_t *out, size_t out_len);
 size_t loadplan_symbols(uint8_t class_, uint8_t order, const uint8_t *table, size_t table_len, size_t from, uint64_t *out, size_t out_len);

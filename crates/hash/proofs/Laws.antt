@@ -20,13 +20,12 @@ use Rattle.endian.proofs.Laws.{faultless, answered, refused}
 use Rattle.parse.specs.Entry.{entryFault, countOf}
 use Rattle.parse.proofs.Laws.{readable, counted}
 use Rattle.symbol.specs.Layout.{symbolAt}
-use Rattle.string_table.specs.Text.{textFault, textAt, sameBytes, isClean, compared}
+use Rattle.string_table.specs.Text.{textFault, textAt, sameBytes, compared}
 use Rattle.string_table.specs.declared.Compared.{Compared}
 use Rattle.string_table.specs.declared.Compared.the-variants.{Same as Equal, Other, Refused as Unread}
-use Rattle.hash.specs.Sysv.{sysvHash, hashedOf}
+use Rattle.hash.specs.Sysv.{sysvHash}
 use Rattle.hash.specs.Table.{bucketCount, chainCount, chainPlace, orElse, hashFault, headOf}
 use Rattle.hash.specs.Find.{nameOf, nextOf, turnOf, afterTurn, walkOf, startOf, findOf}
-use Rattle.hash.specs.declared.Hashed.{Hashed}
 use Rattle.hash.specs.declared.Head.{Head}
 use Rattle.hash.specs.declared.GotHead.the-variants.{Is, Refused as HeadRefused}
 use Rattle.hash.specs.declared.Turn.{Turn}
@@ -158,16 +157,6 @@ start-room e h d n p q =
     let t = head-told e h d p in
     let b : 0 < d .buckets = omega arith in
     omega (arith, told-room e h d (t .1) (t .0), mod-lt n b)
-
--- what is told of a name
-module _ (s : List ℕ) (g : Hashed) (same : g ≡ hashedOf s) where
-  pub told-hash : g .hash ≡ sysvHash s
-  unfolding hashedOf
-  told-hash = ap (λ (x : Hashed). x .hash) same
-
-  pub told-clean : g .clean ≡ isClean s
-  unfolding hashedOf
-  told-clean = ap (λ (x : Hashed). x .clean) same
 
 -- a symbol's size, and where its name stands
 pub size-room : (c : Class) → 4 ≤ sizeOf symbol c

@@ -3,7 +3,6 @@
 -- sysvStep h b      one byte: then xor with bits 24 up, and f0 hex
 -- sysvFrom h s      all bytes
 -- sysvHash s        the low 28 bits at the end
--- hashedOf s        the hash, and whether no byte is zero
 -- abiStep h b       one byte of the ABI's form: the high four bits are folded in, if there are any, and then cleared
 -- abiHash s         all bytes
 -- Assumes nothing.
@@ -12,8 +11,6 @@ use mathlib.Core.Bool.{cond}
 use mathlib.Core.List.{List, [], _∷_}
 use lib.Bits.{bitAnd, bitXor}
 use lib.Dec.{eqb}
-use Rattle.string_table.specs.Text.{isClean}
-use Rattle.hash.specs.declared.Hashed.{Hashed}
 
 abbrev pub shifted : ℕ → ℕ → ℕ
 shifted h b = (16 * h + b) % 2 ^ 32
@@ -30,9 +27,6 @@ sysvFrom h (b ∷ s) = sysvFrom (sysvStep h b) s
 
 unfoldable pub sysvHash : List ℕ → ℕ
 sysvHash s = sysvFrom 0 s % 2 ^ 28
-
-unfoldable pub hashedOf : List ℕ → Hashed
-hashedOf s = record { hash = sysvHash s; clean = isClean s }
 
 -- n after `if (g) n ^= g >> 24`
 abbrev pub folded : ℕ → ℕ → ℕ

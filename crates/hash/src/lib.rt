@@ -1,14 +1,14 @@
 // The SysV hash table: the hash of a name, the table's header, and the lookup of a name.
 // A lookup takes at most as many turns as the table has chain entries. A turn tests one range for the symbol and one for the chain
 // entry, and reads the symbol's name field only. Where the string table's last zero byte stands is found once, so no turn searches
-// for the end of a string, and whether the name holds a zero byte is found with its hash, so no turn looks for one.
+// for the end of a string, and so is whether the name holds a zero byte, so no turn looks for one.
 ghost use mathlib.Core.Path.{_≡_};
 ghost use Prim.Native.Nat.{_+_, _*_, _<_, _≤_};
 ghost use lib.ListN.{length};
 ghost use Rattle.endian.specs.Range.{answer, noFault};
 ghost use Rattle.endian.specs.Place.{sizeOf, symbol};
 ghost use Rattle.parse.specs.Entry.{entryFault, countOf};
-ghost use Rattle.hash.specs.Sysv.{sysvStep, sysvHash, hashedOf};
+ghost use Rattle.hash.specs.Sysv.{sysvStep, sysvHash};
 ghost use Rattle.hash.specs.Table.{hashFault, headOf};
 ghost use Rattle.hash.specs.Find.{nextOf, turnOf, walkOf, findOf, startOf, Ready};
 use endian::Class;
@@ -42,12 +42,6 @@ enum Turn {
     Fails(Fault),
 }
 
-// What a lookup needs of a name: its hash, and whether no byte of it is zero.
-struct Hashed {
-    hash: u32,
-    clean: bool,
-}
-
 // One byte. The sum is made in 64 bits, and its low 32 are kept.
 fn hash_step(h: u32, b: u8) -> u32
     ensures { λ r. ⌜ r ≡ sysvStep h b ⌝ }
@@ -56,31 +50,17 @@ fn hash_step(h: u32, b: u8) -> u32
     n ^ ((n >> 24) & 0xf0)
 }
 
-// Both in one walk over the name. The flag is made without a branch, so it adds no guess to a turn.
-fn hash_of(name: &[u8]) -> Hashed
-    ensures { λ r. ⌜ r ≡ hashedOf (now (name .entry)) ⌝ }
-{
-    let mut h: u32 = 0;
-    let mut clean = true;
-    let mut i = 0;
-    while i < name.len() {
-        let b = name[i];
-        h = hash_step(h, b);
-        clean = clean & (b != 0);
-        i += 1;
-    }
-    Hashed {
-        hash: h % 268435456,
-        clean: clean,
-    }
-}
-
 // The hash of a name.
 pub fn sysv_hash(name: &[u8]) -> u32
     ensures { λ r. ⌜ r ≡ sysvHash (now (name .entry)) ⌝ }
 {
-    let g = hash_of(name);
-    g.hash
+    let mut h: u32 = 0;
+    let mut i = 0;
+    while i < name.len() {
+        h = hash_step(h, name[i]);
+        i += 1;
+    }
+    h % 268435456
 }
 
 // The header of a table: the counts, and both tables, must lie in the data.
@@ -221,11 +201,11 @@ pub fn find(class: Class, order: Order, h: &[u8], syms: &[u8], strs: &[u8], name
             if b == 0 {
                 return Lookup::Nothing;
             }
-            let n = hash_of(name);
-            let at = n.hash % b;
+            let at = sysv_hash(name) % b;
             let start = endian::u32_in(order, h, 8 + 4 * (at as usize));
             let whole = symbol_count(class, syms.len());
             let last = string_table::last_zero(strs);
+            let clean = string_table::is_clean(name);
             walk(
                 class,
                 order,
@@ -236,7 +216,7 @@ pub fn find(class: Class, order: Order, h: &[u8], syms: &[u8], strs: &[u8], name
                 strs,
                 last,
                 name,
-                n.clean,
+                clean,
                 start as usize,
             )
         }

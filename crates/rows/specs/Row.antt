@@ -1,7 +1,7 @@
 -- The entries as rows of numbers, in the order in which include/loadplan.h lists the values.
 -- twos w z           the two's complement of z in w bytes: what a signed number crosses as
 -- sectionRow h ..    the values of an entry, a function for each kind
--- packedRow s        a symbol in three values: name in bits 0 to 31 of the first, info 32 to 39, other 40 to 47, shndx 48 to 63
+-- packedRow s        a symbol in four values: the second has info in bits 0 to 7, other in 8 to 15, shndx in 16 to 31
 -- Assumes nothing.
 use Prim.Native.Nat.{ℕ, suc, _+_, _*_, _-_, _^_}
 use mathlib.Core.List.{List, [], _∷_}
@@ -27,7 +27,7 @@ abbrev pub symbolRow : Symbol → List ℕ
 symbolRow s = s .name ∷ s .shndx ∷ s .info ∷ s .other ∷ s .value ∷ s .size ∷ []
 
 abbrev pub packedRow : Symbol → List ℕ
-packedRow s = (s .name + (s .info + s .other * 2 ^ 8 + s .shndx * 2 ^ 16) * 2 ^ 32) ∷ s .value ∷ s .size ∷ []
+packedRow s = s .name ∷ (s .info + s .other * 2 ^ 8 + s .shndx * 2 ^ 16) ∷ s .value ∷ s .size ∷ []
 
 abbrev pub relRow : Rel → List ℕ
 relRow x = x .offset ∷ x .sym ∷ x .kind ∷ []

@@ -64,16 +64,12 @@ pub fn symbol_row(s: Symbol) -> [u64; 6]
     ]
 }
 
-// A symbol in three values. The upper half of the first is made in 32 bits: of the shapes measured, that compiles best.
-pub fn packed_row(s: Symbol) -> [u64; 3]
+// A symbol in four values: info, other and shndx share the second.
+pub fn packed_row(s: Symbol) -> [u64; 4]
     ensures { λ r. ⌜ r ≡ packedRow s ⌝ }
 {
     let rest = (s.info as u32) + (s.other as u32) * 256 + (s.shndx as u32) * 65536;
-    [
-        (s.name as u64) + (rest as u64) * 4294967296,
-        s.value,
-        s.size,
-    ]
+    [s.name as u64, rest as u64, s.value, s.size]
 }
 
 pub fn rel_row(x: Rel) -> [u64; 3]

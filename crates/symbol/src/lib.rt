@@ -63,14 +63,20 @@ fn symbol64(order: Order, t: &[u8], o: usize) -> Symbol
     }
 }
 
-// The entry at an offset, where it is whole.
+// The entry at an offset, where it is whole. Class and order are told apart here, once for all fields.
 pub fn symbol_in(class: Class, order: Order, t: &[u8], o: usize) -> Symbol
     requires { ⌜ o + sizeOf symbol class ≤ length (now t) ⌝ }
     ensures { λ r. ⌜ r ≡ symbolAt class order (now (t .entry)) o ⌝ }
 {
     match class {
-        Class::Elf32 => symbol32(order, t, o),
-        Class::Elf64 => symbol64(order, t, o),
+        Class::Elf32 => match order {
+            Order::Little => symbol32(Order::Little, t, o),
+            Order::Big => symbol32(Order::Big, t, o),
+        },
+        Class::Elf64 => match order {
+            Order::Little => symbol64(Order::Little, t, o),
+            Order::Big => symbol64(Order::Big, t, o),
+        },
     }
 }
 

@@ -36,7 +36,7 @@ abbrev pub widthOf : Kind → ℕ
 widthOf Section = 10
 widthOf Segment = 8
 widthOf Symbol = 6
-widthOf Packed = 3
+widthOf Packed = 4
 widthOf Rel = 3
 widthOf Rela = 4
 widthOf Dyn = 2

@@ -14,7 +14,7 @@ pub enum Kind {
     Section,
     Segment,
     Symbol,
-    Packed, // symbols, three values each
+    Packed, // symbols, four values each
     Rel,
     Rela,
     Dyn,
@@ -43,7 +43,7 @@ fn width_of(kind: Kind) -> usize
         Kind::Section => 10,
         Kind::Segment => 8,
         Kind::Symbol => 6,
-        Kind::Packed => 3,
+        Kind::Packed => 4,
         Kind::Rel => 3,
         Kind::Rela => 4,
         Kind::Dyn => 2,
@@ -141,7 +141,7 @@ fn put_entry(kind: Kind, class: Class, order: Order, t: &[u8], o: usize, out: &m
             at,
             rows::symbol_row(symbol::symbol_in(class, order, t, o)),
         ),
-        Kind::Packed => put3(
+        Kind::Packed => put4(
             out,
             at,
             rows::packed_row(symbol::symbol_in(class, order, t, o)),

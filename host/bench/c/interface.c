@@ -9,7 +9,7 @@
 
 #include "../../../include/loadplan.h"
 
-enum { BATCH = 32, ROW = 3, HEAD = 23, COMMON = 16, SYMBOL = 6 };
+enum { BATCH = 32, ROW = 4, HEAD = 23, COMMON = 16, SYMBOL = 6 };
 
 struct file {
     const uint8_t *bytes;
@@ -56,7 +56,7 @@ static uint64_t walk(const struct file *f) {
         if (n == 0)
             return sum;
         for (size_t k = 0; k < n; k++)
-            sum += rows[ROW * k + 1] + rows[ROW * k + 2];
+            sum += rows[ROW * k + 2] + rows[ROW * k + 3];
         from += n;
     }
 }

@@ -298,7 +298,9 @@ impl<E: EndianParse, P: ParseAt> Iterator for ParsingIterator<'_, E, P> {
         if self.given == self.there && !self.fetch() {
             return None;
         }
-        let row = self.batch.get(self.given)?;
+        // What was handed out is less than what is there, which is at most a batch: the remainder is the number itself, and
+        // tells the compiler so.
+        let row = &self.batch[self.given % BATCH];
         self.given += 1;
         Some(P::from_row(row))
     }

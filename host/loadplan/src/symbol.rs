@@ -31,16 +31,16 @@ impl Symbol {
         }
     }
 
-    /// The symbol of a row of a walk: name, info, other and section index stand in one value, lowest first.
+    /// The symbol of a row of a walk: info, other and section index share a value, info lowest.
     #[inline]
-    fn of_packed(row: &[u64; 3]) -> Self {
+    fn of_packed(row: &[u64; 4]) -> Self {
         Symbol {
             st_name: row[0] as u32,
-            st_shndx: (row[0] >> 48) as u16,
-            st_info: (row[0] >> 32) as u8,
-            st_other: (row[0] >> 40) as u8,
-            st_value: row[1],
-            st_size: row[2],
+            st_shndx: (row[1] >> 16) as u16,
+            st_info: row[1] as u8,
+            st_other: (row[1] >> 8) as u8,
+            st_value: row[2],
+            st_size: row[3],
         }
     }
 
@@ -65,4 +65,4 @@ impl Symbol {
     }
 }
 
-entry_of_a_table!(Symbol, 16 or 24 bytes, symbol of Symbol::of, packed_symbols of Symbol::of_packed: 3);
+entry_of_a_table!(Symbol, 16 or 24 bytes, symbol of Symbol::of, packed_symbols of Symbol::of_packed: 4);

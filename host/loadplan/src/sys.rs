@@ -303,7 +303,7 @@ of_a_table! {
     dyn_ = loadplan_dyn, dyns = loadplan_dyns -> 2;
 }
 
-/// The same as [symbols] with three values an entry, name, info, other and section index packed into the first.
+/// The same as [symbols] with four values an entry: info, other and section index share the second.
 #[inline]
 pub fn packed_symbols(class: u8, order: u8, table: &[u8], from: usize, out: &mut [u64]) -> usize {
     // SAFETY: each pointer and the length behind it are one slice's.
