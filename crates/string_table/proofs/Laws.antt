@@ -98,6 +98,16 @@ part-byte s o n j h = rw (getD-take, getD-drop)
 pub run-byte : (s : List ℕ) (o : ℕ) (name : List ℕ) → take (length name) (drop o s) ≡ name → (j : ℕ) → j < length name → getD s (o + j) 0 ≡ getD name j 0
 run-byte s o name e j h = sym (part-byte s o (length name) j h) ∙ ap (λ (t : List ℕ). getD t j 0) e
 
+-- whether a list is clean, a byte at a time: one more is looked at, and none is left
+pub clean-turn : (s : List ℕ) (x : Bool) (i : ℕ) → i < length s
+    → (x && not (eqb (getD s i 0) 0) && isClean (drop (i + 1) s)) ≡ (x && isClean (drop i s))
+unfolding isClean
+clean-turn s x i h = rw (drop-cons s i 0 h, add-one i) (and-assoc x _ _)
+
+pub clean-over : (s : List ℕ) (x : Bool) (i : ℕ) → length s ≤ i → x ≡ (x && isClean (drop i s))
+unfolding isClean
+clean-over s x i h = rw (drop-of-length-le s h) (sym (and-true x))
+
 -- no byte of a clean list is zero, and a list is clean where none is
 clean-byte : (s : List ℕ) → isClean s ≡ true → (j : ℕ) → j < length s → getD s j 0 ≡ 0 → ⊥
 unfolding isClean
@@ -115,18 +125,8 @@ unfolding isClean
 all-clean [] h = refl
 all-clean (b ∷ s) h = rw (ne-eqb b 0 (h 0 (omega arith)), all-clean s (λ j g. h (suc j) (omega arith)))
 
--- a byte more looked at, and none left
-pub clean-turn : (s : List ℕ) (x : Bool) (i : ℕ) → i < length s
-    → (x && not (eqb (getD s i 0) 0) && isClean (drop (i + 1) s)) ≡ (x && isClean (drop i s))
-unfolding isClean
-clean-turn s x i h = rw (drop-cons s i 0 h, add-one i) (and-assoc x _ _)
-
-pub clean-over : (s : List ℕ) (x : Bool) (i : ℕ) → length s ≤ i → x ≡ (x && isClean (drop i s))
-unfolding isClean
-clean-over s x i h = rw (drop-of-length-le s h) (sym (and-true x))
-
 -- so a string of a table is clean, and a name that is not clean is none
-pub text-clean : (s : List ℕ) (o : ℕ) → isClean (textAt s o) ≡ true
+text-clean : (s : List ℕ) (o : ℕ) → isClean (textAt s o) ≡ true
 unfolding textAt endOf
 text-clean s o = pick (endOf s o) refl
   where
