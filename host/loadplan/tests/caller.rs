@@ -47,6 +47,43 @@ fn symbols_of_a_library_are_found_by_name_and_by_hash() {
     }
 }
 
+/// Symbols by their numbers, by a walk one by one and folded, and by a batch of plain rows: four ways through the archive.
+#[test]
+fn every_way_to_the_symbols_is_the_same() {
+    for name in LIBRARIES {
+        let data = corpus(name);
+        let file = ElfBytes::<AnyEndian>::minimal_parse(&data).expect("it is opened");
+        let (symbols, _) = file.symbol_table().expect("its tables are in order").expect("it has symbols");
+        // More than two batches, so that a walk fetches again and ends within one.
+        let bytes = symbols.as_bytes().repeat(3 * elf::parse::BATCH / symbols.len() + 1);
+        let table = SymbolTable::new(file.ehdr.endianness, file.ehdr.class, &bytes);
+        let by_number: Vec<Symbol> = (0..table.len()).map(|i| table.get(i).expect("it is whole")).collect();
+        let one_by_one: Vec<Symbol> = std::iter::from_fn({
+            let mut walk = table.iter();
+            move || walk.next()
+        })
+        .collect();
+        let folded = table.iter().fold(Vec::new(), |mut all, symbol| {
+            all.push(symbol);
+            all
+        });
+        let (class, order) = (data[4], data[5]);
+        let mut rows = vec![[0; 6]; table.len()];
+        assert_eq!(elf::sys::symbols(class, order, &bytes, 0, rows.as_flattened_mut()), table.len());
+        let of_row = |row: &[u64; 6]| Symbol {
+            st_name: row[0] as u32,
+            st_shndx: row[1] as u16,
+            st_info: row[2] as u8,
+            st_other: row[3] as u8,
+            st_value: row[4],
+            st_size: row[5],
+        };
+        assert_eq!(by_number, one_by_one);
+        assert_eq!(by_number, folded);
+        assert_eq!(by_number, rows.iter().map(of_row).collect::<Vec<_>>());
+    }
+}
+
 #[test]
 fn sections_are_found_by_name_and_read() {
     for name in LIBRARIES {
