@@ -88,6 +88,8 @@ boot_gigabytes:
     .skip PAGE
 boot_regions:
     .skip PAGE
+    .globl monitor_stack
+monitor_stack:
     .skip 0x4000
 monitor_stack_end:
     .globl cycles_at_start

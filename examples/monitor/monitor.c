@@ -56,14 +56,15 @@ static void run(const struct card *card)
 
 static void load_and_run(const struct card *card)
 {
-    uint8_t table[MOST_SEGMENTS * LOADPLAN_RECORD_SIZE];
+    static uint8_t table[MOST_SEGMENTS * LOADPLAN_RECORD_SIZE]; /* not on the stack: it is in the checksum */
+    const void *frame = __builtin_frame_address(0);
     uint64_t start = window_start[card->window];
     window_for_loading(card->window);
-    uint64_t before = window_checksum(card->window);
+    uint64_t before = memory_checksum(card->window, frame);
     struct loadplan_planned planned =
         loadplan_load(card->file, card->length, start, WINDOW_LENGTH, table, sizeof table, (uint8_t *)start, WINDOW_LENGTH);
     if (planned.refusal != 0)
-        return report_refusal(planned, window_checksum(card->window) == before);
+        return report_refusal(planned, memory_checksum(card->window, frame) == before);
     print("loaded\n");
     time_apart(card, start);
     protect(card->window, table, planned.records);

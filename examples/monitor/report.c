@@ -14,7 +14,7 @@ void report_card(uint64_t number, const char *label)
     print("): ");
 }
 
-void report_refusal(struct loadplan_planned planned, bool window_as_it_was)
+void report_refusal(struct loadplan_planned planned, bool memory_as_it_was)
 {
     print("refused ");
     print_decimal(planned.refusal);
@@ -22,7 +22,7 @@ void report_refusal(struct loadplan_planned planned, bool window_as_it_was)
         print(", reader ");
         print_decimal(planned.reader);
     }
-    print(window_as_it_was ? "; window as it was\n" : "; WINDOW CHANGED\n");
+    print(memory_as_it_was ? "; window and monitor as they were\n" : "; MEMORY CHANGED\n");
 }
 
 void report_pages(uint64_t page, uint64_t length, uint64_t flags)
@@ -51,10 +51,10 @@ void report_outcome(const struct outcome *outcome)
     print("\n");
 }
 
-/* Of words of 8 bytes; both ends are multiples of that. Each step can be undone, so one changed word changes the sum. */
-static uint64_t checksum(const void *from, const void *to)
+/* Goes on with a sum of words of 8 bytes; both ends are multiples of that. Each step can be undone, so one changed word
+ * changes the sum. */
+static uint64_t checksum(uint64_t sum, const void *from, const void *to)
 {
-    uint64_t sum = 0xcbf29ce484222325;
     for (const uint64_t *at = from; at < (const uint64_t *)to; at++)
         sum = (sum ^ *at) * 0x100000001b3;
     return sum;
@@ -62,11 +62,13 @@ static uint64_t checksum(const void *from, const void *to)
 
 uint64_t monitor_checksum(void)
 {
-    return checksum(monitor_start, monitor_still_end);
+    return checksum(0, monitor_start, monitor_still_end);
 }
 
-uint64_t window_checksum(uint64_t window)
+uint64_t memory_checksum(uint64_t window, const void *frame)
 {
     const uint8_t *start = (const uint8_t *)window_start[window];
-    return checksum(start, start + WINDOW_LENGTH);
+    uint64_t sum = checksum(0, start, start + WINDOW_LENGTH);
+    sum = checksum(sum, monitor_start, monitor_stack);
+    return checksum(sum, frame, monitor_end);
 }

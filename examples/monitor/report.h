@@ -9,7 +9,7 @@
 #include "traps.h"
 
 void report_card(uint64_t number, const char *label);
-void report_refusal(struct loadplan_planned planned, bool window_as_it_was);
+void report_refusal(struct loadplan_planned planned, bool memory_as_it_was);
 void report_pages(uint64_t page, uint64_t length, uint64_t flags);
 void report_outcome(const struct outcome *outcome);
 
@@ -17,7 +17,8 @@ void report_outcome(const struct outcome *outcome);
  * segments, gates. What a program or a loader must never change. */
 uint64_t monitor_checksum(void);
 
-/* Over a window that is open for loading. */
-uint64_t window_checksum(uint64_t window);
+/* Over a window that is open for loading and all memory of the monitor, its variables and the windows' page tables too, but
+ * for the stack below `frame`, on which the function with that frame and those that it calls work. */
+uint64_t memory_checksum(uint64_t window, const void *frame);
 
 #endif
