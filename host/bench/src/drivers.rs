@@ -7,6 +7,8 @@ use std::fs;
 use std::path::{Path, PathBuf};
 use std::process::Command;
 
+use loadplan::endian::AnyEndian;
+use loadplan::ElfBytes;
 use loadplan_command::Fault;
 use loadplan_compare::places;
 
@@ -15,6 +17,7 @@ pub const PHASES: [&str; 4] = ["parse", "open", "walk", "find"];
 
 pub const CRATE: &str = "crate elf";
 pub const C: &str = "C with tests";
+pub const PORT: &str = "port, from Rust";
 
 pub struct Driver {
     pub name: String,
@@ -131,7 +134,7 @@ pub fn build(shared: &Path, folder: &Path) -> Result<Vec<Driver>, Fault> {
         driver(CRATE, driver_of_the_crate(folder)?, None),
         driver(C, by_c.clone(), Some("checked")),
         driver("C without tests", by_c, Some("native")),
-        driver("port, from Rust", driver_of_the_port()?, None),
+        driver(PORT, driver_of_the_port()?, None),
         driver("port, from C", driver_in_c(folder)?, None),
     ])
 }
@@ -171,6 +174,13 @@ fn driver_in_c(folder: &Path) -> Result<PathBuf, Fault> {
     clang.arg("-O2").arg("-o").arg(&program).arg(repository.join("host/bench/c/interface.c"));
     done("building the driver in C", clang.arg(archive.join("libloadplan.a")))?;
     Ok(program)
+}
+
+/// How many symbols a chain of the file's hash table has, on average: the linker chooses the number of buckets.
+pub fn symbols_a_bucket(file: &Path) -> Option<f64> {
+    let bytes = fs::read(file).ok()?;
+    let table = ElfBytes::<AnyEndian>::minimal_parse(&bytes).ok()?.find_common_data().ok()?.sysv_hash?;
+    Some(f64::from(table.header().nchain) / f64::from(table.header().nbucket))
 }
 
 /// A shared object like the baseline's, with so many symbols.

@@ -85,12 +85,12 @@ fn run(mut arguments: Arguments) -> Result<bool, Fault> {
 
 impl Bench {
     /// What each driver took for a file, in turns; `None` where a driver does not read it.
-    fn measure(&self, file: &Path) -> Result<Vec<Option<Measured>>, Fault> {
+    fn measure(&self, file: &Path, turns: u32) -> Result<Vec<Option<Measured>>, Fault> {
         let mut measured: Vec<Option<Measured>> = self.drivers.iter().map(|_| None).collect();
         for _ in 0..self.runs {
             for (driver, least) in self.drivers.iter().zip(&mut measured) {
                 if driver.reads(file) {
-                    let once = driver.run(file, self.turns)?;
+                    let once = driver.run(file, turns)?;
                     *least = Some(match least.take() {
                         Some(before) => before.least(once),
                         None => once,
@@ -103,7 +103,7 @@ impl Bench {
 
     /// Times of the phases and their ratios to the crate and to C with tests; whether all sums agree.
     fn phases(&self, file: &Path, name: &str) -> Result<bool, Fault> {
-        let measured = self.measure(file)?;
+        let measured = self.measure(file, self.turns)?;
         let of = |wanted: &str| self.drivers.iter().position(|driver| driver.name == wanted);
         let (first, c) = (of(drivers::CRATE), of(drivers::C));
         let base = |k: Option<usize>| k.and_then(|k| measured[k].as_ref());
@@ -143,25 +143,37 @@ impl Bench {
         Ok(())
     }
 
-    /// Nanoseconds a symbol at the baseline's size and at ten times as many.
+    /// Nanoseconds and the port's instructions a symbol, at the baseline's size and at ten times as many.
     fn growth(&self, shared: &Path) -> Result<bool, Fault> {
         let grown = drivers::grown_file(shared, &self.folder, GROWN)?;
-        let small = self.measure(&self.folder.join("bench/big64.so"))?;
-        let large = self.measure(&grown)?;
-        let mut table = Table::new(&format!("growth: nanoseconds a symbol, {SYMBOLS} and {GROWN} symbols"), "program");
+        let files = [(self.folder.join("bench/big64.so"), SYMBOLS), (grown, GROWN)];
+        let turns = (self.turns / 8).max(3);
+        let measured = [self.measure(&files[0].0, turns)?, self.measure(&files[1].0, turns)?];
+        let mut table = Table::new("growth: nanoseconds a symbol, then instructions a symbol", "program");
         for phase in ["walk", "find"] {
             table.columns(&[&format!("{phase} {SYMBOLS}"), &format!("{phase} {GROWN}")]);
         }
         for (k, driver) in self.drivers.iter().enumerate() {
-            let (Some(small), Some(large)) = (&small[k], &large[k]) else { continue };
-            let each = |measured: &Measured, phase, symbols: u64| {
-                table::small(measured.time(phase).map(|ns| ns / symbols as f64))
+            let each = |phase: &str, size: usize| {
+                let time = measured[size][k].as_ref().and_then(|measured| measured.time(phase));
+                table::small(time.map(|ns| ns / files[size].1 as f64))
             };
-            let cells =
-                ["walk", "find"].iter().flat_map(|phase| [each(small, phase, SYMBOLS), each(large, phase, GROWN)]);
-            table.row(&driver.name, cells.collect());
+            table.row(
+                &driver.name,
+                ["walk", "find"].iter().flat_map(|phase| [each(phase, 0), each(phase, 1)]).collect(),
+            );
         }
+        if let Some(port) = self.drivers.iter().find(|driver| driver.name == drivers::PORT) {
+            let each = |phase: &str, (file, symbols): &(PathBuf, u64)| {
+                let count = port.count(file, phase).zip(port.count(file, "none")).map(|(all, around)| all - around);
+                table::small(count.map(|count| count as f64 / *symbols as f64))
+            };
+            let cells = ["walk", "find"].iter().flat_map(|phase| files.iter().map(|file| each(phase, file)));
+            table.row(&format!("{}, instructions", port.name), cells.collect());
+        }
+        let buckets = files.each_ref().map(|(file, _)| table::small(drivers::symbols_a_bucket(file)));
+        table.row("symbols a bucket of the file", vec!["-".into(), "-".into(), buckets[0].clone(), buckets[1].clone()]);
         table.print();
-        Ok(drivers::agree(&self.drivers, &large, "the grown file"))
+        Ok(drivers::agree(&self.drivers, &measured[1], "the grown file"))
     }
 }
