@@ -55,7 +55,7 @@ impl Measured {
         let sums: Vec<u64> = sums.split_whitespace().map(|sum| sum.parse().ok()).collect::<Option<_>>()?;
         let phase = |(pair, &sum): (&[&str], &u64)| Some((pair[0].to_string(), pair[1].parse().ok()?, sum));
         let phases: Vec<_> = words.chunks_exact(2).zip(&sums).map(phase).collect::<Option<_>>()?;
-        (phases.len() == sums.len()).then_some(Measured { phases })
+        (2 * sums.len() == words.len()).then_some(Measured { phases })
     }
 }
 
@@ -199,4 +199,40 @@ pub fn grown_file(shared: &Path, folder: &Path, symbols: u64) -> Result<PathBuf,
         fs::remove_file(object)?;
     }
     Ok(file)
+}
+
+#[cfg(test)]
+mod tests {
+    use super::*;
+
+    fn measured(line: &str) -> Option<Measured> {
+        Measured::from_line(line)
+    }
+
+    #[test]
+    fn lines_are_read_with_and_without_a_name() {
+        let ours = measured("parse 1.50 open 2.00 walk 30.00 find 40.00 sums 1 2 3 4").expect("it is a line");
+        assert_eq!((ours.time("walk"), ours.sum("find")), (Some(30.0), Some(4)));
+        let theirs = measured("C-checked open 2.50 walk 31 find 41 sums 2 3 4").expect("it is a line");
+        assert_eq!((theirs.time("open"), theirs.sum("open"), theirs.time("parse")), (Some(2.5), Some(2), None));
+        assert!(measured("open 2.50 walk 31 sums 2").is_none());
+        assert!(measured("nothing").is_none());
+    }
+
+    #[test]
+    fn the_least_time_counts() {
+        let least =
+            measured("open 2.5 walk 31 sums 2 3").unwrap().least(measured("open 3.5 walk 30 sums 2 3").unwrap());
+        assert_eq!((least.time("open"), least.time("walk")), (Some(2.5), Some(30.0)));
+    }
+
+    #[test]
+    fn sums_that_differ_are_found_out() {
+        let driver = |name: &str| Driver { name: name.to_string(), program: PathBuf::new(), way: None };
+        let drivers = [driver("one"), driver("other")];
+        let line = |sum: u64| measured(&format!("open 2.5 walk 31 sums 2 {sum}"));
+        assert!(agree(&drivers, &[line(3), line(3)], "a file"));
+        assert!(agree(&drivers, &[line(3), None], "a file"));
+        assert!(!agree(&drivers, &[line(3), line(4)], "a file"));
+    }
 }

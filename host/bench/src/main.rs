@@ -10,7 +10,7 @@ use std::path::{Path, PathBuf};
 use std::process::ExitCode;
 
 use loadplan_command::arguments::Arguments;
-use loadplan_command::Fault;
+use loadplan_command::{exit_status, Fault, Verdict};
 use loadplan_compare::places;
 
 use drivers::{Driver, Measured};
@@ -46,27 +46,12 @@ fn main() -> ExitCode {
         print!("{HELP}");
         return ExitCode::SUCCESS;
     }
-    match run(arguments) {
-        Ok(true) => ExitCode::SUCCESS,
-        Ok(false) => ExitCode::from(1),
-        Err(Fault::OutputClosed) => ExitCode::SUCCESS,
-        Err(Fault::WrongUse(message)) => {
-            eprintln!("loadplan-bench: {message}");
-            ExitCode::from(2)
-        }
-    }
-}
-
-fn number(arguments: &mut Arguments, name: &str, otherwise: u32) -> Result<u32, Fault> {
-    match arguments.value(name)? {
-        Some(word) => word.parse().map_err(|_| Fault::new(format_args!("{name} needs a number"))),
-        None => Ok(otherwise),
-    }
+    exit_status("loadplan-bench", run(arguments).map(Verdict::from))
 }
 
 fn run(mut arguments: Arguments) -> Result<bool, Fault> {
     let shared = arguments.value("--shared")?.map_or_else(places::shared, PathBuf::from);
-    let (runs, turns) = (number(&mut arguments, "--runs", 7)?, number(&mut arguments, "--turns", 40)?);
+    let (runs, turns) = (arguments.number("--runs", 7)? as u32, arguments.number("--turns", 40)? as u32);
     arguments.files()?;
     let folder = places::repository().join("host/target/bench");
     let bench = Bench { drivers: drivers::build(&shared, &folder)?, folder, runs, turns };

@@ -49,6 +49,14 @@ impl Arguments {
         }
     }
 
+    /// Takes an option and the number behind it.
+    pub fn number(&mut self, name: &str, otherwise: u64) -> Result<u64, Fault> {
+        match self.value(name)? {
+            Some(word) => word.parse().map_err(|_| Fault::new(format_args!("{name} needs a number"))),
+            None => Ok(otherwise),
+        }
+    }
+
     /// The words that are left, as files; an option among them is one that nobody knows.
     pub fn files(self) -> Result<Vec<PathBuf>, Fault> {
         let unknown = self.words.iter().find(|word| word.to_string_lossy().starts_with('-') && word.len() > 1);

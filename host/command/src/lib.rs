@@ -39,6 +39,15 @@ pub enum Verdict {
     Status(u8),
 }
 
+impl From<bool> for Verdict {
+    fn from(accepted: bool) -> Self {
+        match accepted {
+            true => Verdict::Accepted,
+            false => Verdict::Refused,
+        }
+    }
+}
+
 /// Why a subcommand could not do what it was asked.
 #[derive(Debug)]
 pub enum Fault {
@@ -92,12 +101,17 @@ pub fn command(words: impl IntoIterator<Item = OsString>) -> ExitCode {
     let mut output = io::BufWriter::new(io::stdout().lock());
     let ended = dispatch(Arguments::new(words), &mut output);
     let ended = ended.and_then(|verdict| Ok(output.flush().map(|()| verdict)?));
+    exit_status("loadplan", ended)
+}
+
+/// The exit status of a program; what it could not do is said on the error output, behind its name.
+pub fn exit_status(program: &str, ended: Result<Verdict, Fault>) -> ExitCode {
     match ended {
         Ok(Verdict::Accepted) | Err(Fault::OutputClosed) => ExitCode::SUCCESS,
         Ok(Verdict::Refused) => ExitCode::from(1),
         Ok(Verdict::Status(status)) => ExitCode::from(status),
         Err(Fault::WrongUse(message)) => {
-            eprintln!("loadplan: {message}");
+            eprintln!("{program}: {message}");
             ExitCode::from(2)
         }
     }

@@ -8,7 +8,7 @@ use std::time::Instant;
 
 use loadplan_command::arguments::Arguments;
 use loadplan_command::progress::Progress;
-use loadplan_command::{read, Fault};
+use loadplan_command::{exit_status, read, Fault, Verdict};
 use loadplan_compare::compare::{faults_of_the_list, Comparison, Findings};
 use loadplan_compare::damage::{damaged_at_random, Amount};
 use loadplan_compare::hash_tables::hash_tables;
@@ -50,15 +50,7 @@ fn main() -> ExitCode {
         print!("{HELP}");
         return ExitCode::SUCCESS;
     }
-    match run(arguments) {
-        Ok(true) => ExitCode::SUCCESS,
-        Ok(false) => ExitCode::from(1),
-        Err(Fault::OutputClosed) => ExitCode::SUCCESS,
-        Err(Fault::WrongUse(message)) => {
-            eprintln!("loadplan-compare: {message}");
-            ExitCode::from(2)
-        }
-    }
+    exit_status("loadplan-compare", run(arguments).map(Verdict::from))
 }
 
 fn run(mut arguments: Arguments) -> Result<bool, Fault> {
@@ -72,13 +64,6 @@ fn run(mut arguments: Arguments) -> Result<bool, Fault> {
         return record(oracle(&mut arguments)?);
     }
     compare(arguments)
-}
-
-fn number(arguments: &mut Arguments, name: &str, otherwise: u64) -> Result<u64, Fault> {
-    match arguments.value(name)? {
-        Some(word) => word.parse().map_err(|_| Fault::new(format_args!("{name} needs a number"))),
-        None => Ok(otherwise),
-    }
 }
 
 fn make(folder: &Path) -> Result<bool, Fault> {
@@ -96,10 +81,10 @@ fn record(oracle: Oracle) -> Result<bool, Fault> {
 }
 
 fn compare_plans(mut arguments: Arguments) -> Result<bool, Fault> {
-    let files = number(&mut arguments, "--files", 200_000)?;
-    let seed = number(&mut arguments, "--seed", 1)?;
-    let front = number(&mut arguments, "--front", 4096)? as usize;
-    let random = number(&mut arguments, "--random", 1000)?;
+    let files = arguments.number("--files", 200_000)?;
+    let seed = arguments.number("--seed", 1)?;
+    let front = arguments.number("--front", 4096)? as usize;
+    let random = arguments.number("--random", 1000)?;
     let compared = plans::compare(files, seed).and_then(|mut tally| {
         let mut of_damaged = plans::Tally::new();
         for file in places::corpus().map_err(|fault| fault.to_string())? {
@@ -118,9 +103,9 @@ fn compare_plans(mut arguments: Arguments) -> Result<bool, Fault> {
 
 fn compare(mut arguments: Arguments) -> Result<bool, Fault> {
     let oracle = oracle(&mut arguments)?;
-    let front = number(&mut arguments, "--front", 4096)? as usize;
-    let random = number(&mut arguments, "--random", 1000)?;
-    let seed = number(&mut arguments, "--seed", 1)?;
+    let front = arguments.number("--front", 4096)? as usize;
+    let random = arguments.number("--random", 1000)?;
+    let seed = arguments.number("--seed", 1)?;
     let of_the_machine = arguments.flag("--machine");
     let port = Port { wrong: arguments.value("--wrong")? };
     let named = arguments.files()?;
