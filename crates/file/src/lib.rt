@@ -53,7 +53,8 @@ pub enum GotHeader {
     Refused(Fault),
 }
 
-fn order_of(class: Class, b: u8) -> Ident
+// A class, and the order that a number says.
+pub fn order_of(class: Class, b: u8) -> Ident
     ensures { λ r. ⌜ r ≡ orderOf class b ⌝ }
 {
     if b == 1 {

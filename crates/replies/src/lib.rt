@@ -1,6 +1,6 @@
 // What crosses to C: the values of an answer in a lent array, or the number of a refusal and the array as it was.
 ghost use mathlib.Core.Path.{_≡_};
-ghost use Rattle.file.specs.Open.{orderOf, headerOf};
+ghost use Rattle.file.specs.Open.{headerOf};
 ghost use Rattle.elf_bytes.specs.Open.{openOf};
 ghost use Rattle.replies.specs.Reply.{Told, kindOf, classNumber, orderNumber, rangeReply, tableRow, tableReply, symbolsRow, symbolsReply, pairRow, pairReply, foundRow, foundReply, lookupReply, headReply, sectionReply, segmentReply, symbolReply, relReply, relaReply, dynReply, headRow, openedReply, joined, commonRow, commonReply};
 use common::Common;
@@ -34,24 +34,12 @@ pub fn kind_of(class: u8, order: u8) -> Ident
     ensures { λ r. ⌜ r ≡ kindOf class order ⌝ }
 {
     if class == 1 {
-        return order_of(Class::Elf32, order);
+        return file::order_of(Class::Elf32, order);
     }
     if class == 2 {
-        return order_of(Class::Elf64, order);
+        return file::order_of(Class::Elf64, order);
     }
     Ident::Refused(Fault { number: 2 })
-}
-
-fn order_of(class: Class, b: u8) -> Ident
-    ensures { λ r. ⌜ r ≡ orderOf class b ⌝ }
-{
-    if b == 1 {
-        return Ident::Is(class, Order::Little);
-    }
-    if b == 2 {
-        return Ident::Is(class, Order::Big);
-    }
-    Ident::Refused(Fault { number: 3 })
 }
 
 fn class_number(class: Class) -> u64
