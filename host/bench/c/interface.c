@@ -128,21 +128,22 @@ int main(int argc, char **argv) {
     double least[PHASES];
     volatile uint64_t sums[PHASES] = {0};
     collect_names(&f);
-    for (int turn = 0; turn < (argc == 4 ? 1 : turns); turn++) {
-        for (int k = 0; k < PHASES; k++) {
-            if (argc == 4 && strcmp(argv[3], phases[k].name) != 0)
-                continue;
-            int often = argc == 4 ? 1 : phases[k].often;
-            double start = now();
-            for (int n = 0; n < often; n++)
+    if (argc == 4) {
+        for (int k = 0; k < PHASES; k++)
+            if (strcmp(argv[3], phases[k].name) == 0)
                 sums[k] = phases[k].run(&f);
-            double time = (now() - start) / often;
+        return 0;
+    }
+    for (int turn = 0; turn < turns; turn++) {
+        for (int k = 0; k < PHASES; k++) {
+            double start = now();
+            for (int n = 0; n < phases[k].often; n++)
+                sums[k] = phases[k].run(&f);
+            double time = (now() - start) / phases[k].often;
             if (turn == 0 || time < least[k])
                 least[k] = time;
         }
     }
-    if (argc == 4)
-        return 0;
     for (int k = 0; k < PHASES; k++)
         printf("%s %.2f ", phases[k].name, least[k]);
     printf("sums %llu %llu %llu %llu\n", (unsigned long long)sums[0], (unsigned long long)sums[1], (unsigned long long)sums[2],

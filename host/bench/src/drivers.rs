@@ -4,6 +4,7 @@
 //! phase, and does it once and prints nothing.
 
 use std::fs;
+use std::io::Read;
 use std::path::{Path, PathBuf};
 use std::process::Command;
 
@@ -62,11 +63,13 @@ impl Measured {
 impl Driver {
     /// The baseline without tests has structs of 64-bit files only.
     pub fn reads(&self, file: &Path) -> bool {
-        self.way != Some("native") || fs::read(file).is_ok_and(|bytes| bytes.get(4) == Some(&2))
+        let mut start = [0; 5];
+        let is_wide = |mut file: fs::File| file.read_exact(&mut start).is_ok() && start[4] == 2;
+        self.way != Some("native") || fs::File::open(file).is_ok_and(is_wide)
     }
 
     /// The baseline in C does not open without finding the tables.
-    pub fn has(&self, phase: &str) -> bool {
+    fn has(&self, phase: &str) -> bool {
         self.way.is_none() || phase != "parse"
     }
 
@@ -89,11 +92,19 @@ impl Driver {
     }
 
     /// The instructions that the program executes for a phase, with all around it; `None` without valgrind.
-    pub fn count(&self, file: &Path, phase: &str) -> Option<u64> {
+    fn count(&self, file: &Path, phase: &str) -> Option<u64> {
         let valgrind = ["--tool=callgrind", "--callgrind-out-file=/dev/null"];
         let output = Command::new("valgrind").args(valgrind).args(self.words(file, 1, Some(phase))).output().ok()?;
         let said = String::from_utf8_lossy(&output.stderr);
         said.lines().find_map(|line| line.split_once("Collected : ")?.1.trim().parse().ok())
+    }
+
+    /// The instructions of each of these phases alone; `None` for one that the program has not, and without valgrind.
+    pub fn instructions(&self, file: &Path, phases: &[&str]) -> Option<Vec<Option<u64>>> {
+        let around = self.count(file, "none")?;
+        let of_a_phase =
+            |phase: &&str| Some(self.count(file, phase).filter(|_| self.has(phase))?.saturating_sub(around));
+        Some(phases.iter().map(of_a_phase).collect())
     }
 }
 

@@ -10,7 +10,7 @@ use std::path::{Path, PathBuf};
 use std::process::ExitCode;
 
 use loadplan_command::arguments::Arguments;
-use loadplan_command::{exit_status, Fault, Verdict};
+use loadplan_command::{program, Fault};
 use loadplan_compare::places;
 
 use drivers::{Driver, Measured};
@@ -41,12 +41,7 @@ struct Bench {
 }
 
 fn main() -> ExitCode {
-    let mut arguments = Arguments::new(std::env::args_os().skip(1));
-    if arguments.flag("--help") {
-        print!("{HELP}");
-        return ExitCode::SUCCESS;
-    }
-    exit_status("loadplan-bench", run(arguments).map(Verdict::from))
+    program("loadplan-bench", HELP, run)
 }
 
 fn run(mut arguments: Arguments) -> Result<bool, Fault> {
@@ -114,15 +109,12 @@ impl Bench {
         let mut table = Table::new(&format!("{name}: instructions of a phase"), "program");
         table.columns(&drivers::PHASES);
         for driver in self.drivers.iter().filter(|driver| driver.reads(file)) {
-            let Some(nothing) = driver.count(file, "none") else {
+            let Some(counted) = driver.instructions(file, &drivers::PHASES) else {
                 println!("instructions: not counted, valgrind is not there\n");
                 return Ok(());
             };
-            let count = |phase: &&str| match driver.has(phase) {
-                true => driver.count(file, phase).map_or("-".to_string(), |n| n.saturating_sub(nothing).to_string()),
-                false => "-".to_string(),
-            };
-            table.row(&driver.name, drivers::PHASES.iter().map(count).collect());
+            let cell = |count: Option<u64>| count.map_or("-".to_string(), |count| count.to_string());
+            table.row(&driver.name, counted.into_iter().map(cell).collect());
         }
         table.print();
         Ok(())
@@ -149,12 +141,13 @@ impl Bench {
             );
         }
         if let Some(port) = self.drivers.iter().find(|driver| driver.name == drivers::PORT) {
-            let each = |phase: &str, (file, symbols): &(PathBuf, u64)| {
-                let count = port.count(file, phase).zip(port.count(file, "none")).map(|(all, around)| all - around);
-                table::small(count.map(|count| count as f64 / *symbols as f64))
+            let counted = files.each_ref().map(|(file, _)| port.instructions(file, &["walk", "find"]));
+            let each = |phase: usize, size: usize| {
+                let count = counted[size].as_ref().and_then(|counted| counted[phase]);
+                table::small(count.map(|count| count as f64 / files[size].1 as f64))
             };
-            let cells = ["walk", "find"].iter().flat_map(|phase| files.iter().map(|file| each(phase, file)));
-            table.row(&format!("{}, instructions", port.name), cells.collect());
+            let cells = vec![each(0, 0), each(0, 1), each(1, 0), each(1, 1)];
+            table.row(&format!("{}, instructions", port.name), cells);
         }
         let buckets = files.each_ref().map(|(file, _)| table::small(drivers::symbols_a_bucket(file)));
         table.row("symbols a bucket of the file", vec!["-".into(), "-".into(), buckets[0].clone(), buckets[1].clone()]);

@@ -39,15 +39,6 @@ pub enum Verdict {
     Status(u8),
 }
 
-impl From<bool> for Verdict {
-    fn from(accepted: bool) -> Self {
-        match accepted {
-            true => Verdict::Accepted,
-            false => Verdict::Refused,
-        }
-    }
-}
-
 /// Why a subcommand could not do what it was asked.
 #[derive(Debug)]
 pub enum Fault {
@@ -104,8 +95,19 @@ pub fn command(words: impl IntoIterator<Item = OsString>) -> ExitCode {
     exit_status("loadplan", ended)
 }
 
+/// A program of this workspace that answers yes or no: tells its help, or runs with the words that it was started with.
+pub fn program(name: &str, help: &str, run: fn(Arguments) -> Result<bool, Fault>) -> ExitCode {
+    let mut arguments = Arguments::new(std::env::args_os().skip(1));
+    if arguments.flag("--help") {
+        print!("{help}");
+        return ExitCode::SUCCESS;
+    }
+    let verdict = |yes| if yes { Verdict::Accepted } else { Verdict::Refused };
+    exit_status(name, run(arguments).map(verdict))
+}
+
 /// The exit status of a program; what it could not do is said on the error output, behind its name.
-pub fn exit_status(program: &str, ended: Result<Verdict, Fault>) -> ExitCode {
+fn exit_status(program: &str, ended: Result<Verdict, Fault>) -> ExitCode {
     match ended {
         Ok(Verdict::Accepted) | Err(Fault::OutputClosed) => ExitCode::SUCCESS,
         Ok(Verdict::Refused) => ExitCode::from(1),

@@ -85,23 +85,20 @@ fn some_dynamic_entries(kind: Kind) -> Vec<u8> {
     kind.dynamic(&[(5, 0x10), (6, 0x20), (10, 3), (0, 0)])
 }
 
-/// One loaded segment and a dynamic one, no sections.
-fn segments_only(kind: Kind) -> Vec<u8> {
+/// Adds some dynamic entries; the segment that holds them.
+fn add_dynamic_segment(parts: &mut Parts, kind: Kind) -> Segment {
     let dynamic = some_dynamic_entries(kind);
     let size = dynamic.len() as u64;
+    let at = parts.add(8, &dynamic);
+    Segment { kind: 2, flags: 6, offset: at, address: at, in_file: size, in_memory: size, align: 8 }
+}
+
+/// One loaded segment and a dynamic one, no sections.
+fn segments_only(kind: Kind) -> Vec<u8> {
     let mut parts = Parts::new(kind);
-    let dynamic_at = parts.add(8, &dynamic);
-    let all = dynamic_at + size;
+    let entries = add_dynamic_segment(&mut parts, kind);
+    let all = entries.offset + entries.in_file;
     let load = Segment { kind: 1, flags: 6, in_file: all, in_memory: all, align: 4096, ..Segment::default() };
-    let entries = Segment {
-        kind: 2,
-        flags: 6,
-        offset: dynamic_at,
-        address: dynamic_at,
-        in_file: size,
-        in_memory: size,
-        align: 8,
-    };
     let segments_at = parts.add_segments(&[load, entries]);
     parts.file(Header { kind: 3, segments_at, segments: 2, ..Header::default() })
 }
@@ -116,19 +113,8 @@ fn ffff_segments_no_sections(kind: Kind) -> Vec<u8> {
 
 /// A dynamic segment beside one empty section: of the two questions about dynamic entries only one finds them.
 fn dynamic_segment_one_section(kind: Kind) -> Vec<u8> {
-    let dynamic = some_dynamic_entries(kind);
-    let size = dynamic.len() as u64;
     let mut parts = Parts::new(kind);
-    let dynamic_at = parts.add(8, &dynamic);
-    let entries = Segment {
-        kind: 2,
-        flags: 6,
-        offset: dynamic_at,
-        address: dynamic_at,
-        in_file: size,
-        in_memory: size,
-        align: 8,
-    };
+    let entries = add_dynamic_segment(&mut parts, kind);
     let segments_at = parts.add_segments(&[entries]);
     let sections_at = parts.add_sections(&[Section::default()]);
     parts.file(Header { kind: 3, segments_at, sections_at, segments: 1, sections: 1, ..Header::default() })

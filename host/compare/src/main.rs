@@ -8,7 +8,7 @@ use std::time::Instant;
 
 use loadplan_command::arguments::Arguments;
 use loadplan_command::progress::Progress;
-use loadplan_command::{exit_status, read, Fault, Verdict};
+use loadplan_command::{program, read, Fault};
 use loadplan_compare::compare::{faults_of_the_list, Comparison, Findings};
 use loadplan_compare::damage::{damaged_at_random, Amount};
 use loadplan_compare::hash_tables::hash_tables;
@@ -45,12 +45,7 @@ too long; 2 wrong use, or no crate to ask.
 ";
 
 fn main() -> ExitCode {
-    let mut arguments = Arguments::new(std::env::args_os().skip(1));
-    if arguments.flag("--help") {
-        print!("{HELP}");
-        return ExitCode::SUCCESS;
-    }
-    exit_status("loadplan-compare", run(arguments).map(Verdict::from))
+    program("loadplan-compare", HELP, run)
 }
 
 fn run(mut arguments: Arguments) -> Result<bool, Fault> {

@@ -52,6 +52,7 @@ pub type SymbolsAndStrings<'data, E> = (SymbolTable<'data, E>, StringTable<'data
 impl<'data, E: EndianParse> ElfBytes<'data, E> {
     /// Opens a file. What is refused, and in which order, is in include/loadplan.h; a byte order that `E` does not read is
     /// refused with 3 before anything behind the identification is looked at.
+    // Inlined, like the walk for common data: else the whole header is copied twice for a caller who asks for little of it.
     #[inline(always)]
     pub fn minimal_parse(data: &'data [u8]) -> Result<Self, ParseError> {
         let values = sys::open(data).map_err(|refusal| refused_opening::<E>(data, refusal.into()))?;

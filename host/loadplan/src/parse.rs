@@ -304,17 +304,4 @@ impl<E: EndianParse, P: ParseAt> Iterator for ParsingIterator<'_, E, P> {
         self.given += 1;
         Some(P::from_row(row))
     }
-
-    /// Batch by batch, so that no entry asks whether the batch has ended.
-    #[inline]
-    fn fold<B, F: FnMut(B, P) -> B>(mut self, init: B, mut with: F) -> B {
-        let mut folded = init;
-        while self.given < self.there || self.fetch() {
-            for row in self.batch.iter().take(self.there).skip(self.given) {
-                folded = with(folded, P::from_row(row));
-            }
-            self.given = self.there;
-        }
-        folded
-    }
 }
