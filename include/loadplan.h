@@ -63,7 +63,7 @@ uint32_t loadplan_segment_at(const uint8_t *file, size_t file_len, size_t i, uin
 /* The table of section names. out: there, from, to. */
 uint32_t loadplan_name_table(const uint8_t *file, size_t file_len, uint64_t out[3]);
 
-/* The first section with that name, whole and as UTF-8. out: there, its number. */
+/* The first section with that name, whole and as UTF-8. out: there, its number. Some 1.5 KiB of stack. */
 uint32_t loadplan_section_by_name(const uint8_t *file, size_t file_len, const uint8_t *name, size_t name_len, uint64_t out[2]);
 
 /* The bytes of a section, by the numbers of its header (type 8 has none: 0, 0). The flag for compressed data is ignored.
@@ -121,7 +121,7 @@ uint32_t loadplan_string(const uint8_t *table, size_t table_len, size_t offset, 
 uint32_t loadplan_string_utf8(const uint8_t *table, size_t table_len, size_t offset, uint64_t out[2]);
 
 /* The SysV hash table. _header: bucket count, chain count. _find: the first symbol with that name in the chain of its
- * bucket; out: there, its number. */
+ * bucket; out: there, its number; some 1.2 KiB of stack. */
 uint32_t loadplan_sysv_hash(const uint8_t *name, size_t name_len);
 uint32_t loadplan_hash_header(uint8_t order, const uint8_t *table, size_t table_len, uint64_t out[2]);
 uint32_t loadplan_hash_find(uint8_t class_, uint8_t order, const uint8_t *table, size_t table_len, const uint8_t *symbols, size_t symbols_len,

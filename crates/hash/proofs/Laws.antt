@@ -25,9 +25,10 @@ use Rattle.string_table.specs.declared.Compared.{Compared}
 use Rattle.string_table.specs.declared.Compared.the-variants.{Same as Equal, Other, Refused as Unread}
 use Rattle.hash.specs.Sysv.{sysvHash}
 use Rattle.hash.specs.Table.{bucketCount, chainCount, chainPlace, orElse, hashFault, headOf}
-use Rattle.hash.specs.Find.{nameOf, nextOf, turnOf, afterTurn, walkOf, startOf, findOf}
+use Rattle.hash.specs.Find.{nameOf, placeOf, nextOf, turnOf, afterTurn, walkOf, startOf, findOf}
 use Rattle.hash.specs.declared.Head.{Head}
 use Rattle.hash.specs.declared.GotHead.the-variants.{Is, Refused as HeadRefused}
+use Rattle.hash.specs.declared.GotPlace.the-variants.{Is as Placed, Refused as NoPlace}
 use Rattle.hash.specs.declared.Turn.{Turn}
 use Rattle.hash.specs.declared.Turn.the-variants.{Next, Same, Fails}
 use Rattle.hash.specs.declared.Lookup.{Lookup}
@@ -183,20 +184,32 @@ compare-turn f s n = pick (eqb (f .number) 0) s
     pick false s = refl
 
 module _ (c : Class) (e : Order) (h syms strs name : List ℕ) where
-  pub turn-fine : (i o : ℕ) (f : Fault) (m k : Compared) → f ≡ entryFault (sizeOf symbol c) (length syms) i → f .number ≡ 0
-      → o ≡ numberAt e 4 syms (i * sizeOf symbol c) → m ≡ answer (textFault strs o) (compared (sameBytes (textAt strs o) name)) Unread → m ≡ k
-      → afterCompare (nextOf e h i) k ≡ turnOf c e h syms strs name i
-  unfolding turnOf
-  turn-fine i o f m k p z q r s =
-      let w : o ≡ nameOf c e syms i = q ∙ name-read c e syms i in
-      let v : m ≡ answer (textFault strs (nameOf c e syms i)) (compared (sameBytes (textAt strs (nameOf c e syms i)) name)) Unread = rw w at r in
-      ap (afterCompare (nextOf e h i)) (sym s ∙ v)
-      ∙ sym (compare-turn (textFault strs (nameOf c e syms i)) (sameBytes (textAt strs (nameOf c e syms i)) name) (nextOf e h i))
-      ∙ answered (entryFault (sizeOf symbol c) (length syms) i) f _ Fails p z
+  pub turn-compared : (i o : ℕ) (m k : Compared) → Placed o ≡ placeOf c e syms i
+      → m ≡ answer (textFault strs o) (compared (sameBytes (textAt strs o) name)) Unread → m ≡ k → afterCompare (nextOf e h i) k ≡ turnOf c e h syms strs name i
+  unfolding turnOf placeOf
+  turn-compared i o m k p r s = pick (eqb (entryFault (sizeOf symbol c) (length syms) i .number) 0) p
+    where
+      n : ℕ
+      n = nameOf c e syms i
 
-  pub turn-fails : (i : ℕ) (f : Fault) → f ≡ entryFault (sizeOf symbol c) (length syms) i → (f .number ≡ 0 → ⊥) → Fails f ≡ turnOf c e h syms strs name i
-  unfolding turnOf
-  turn-fails i f p z = refused _ f _ Fails p z
+      pick : (t : Bool) → Placed o ≡ cond t (Placed n) (NoPlace (entryFault (sizeOf symbol c) (length syms) i))
+          → afterCompare (nextOf e h i) k
+          ≡ cond t (answer (textFault strs n) (cond (sameBytes (textAt strs n) name) Same (nextOf e h i)) Fails) (Fails (entryFault (sizeOf symbol c) (length syms) i))
+      pick true q =
+          let w : o ≡ n = cc in
+          let v : m ≡ answer (textFault strs n) (compared (sameBytes (textAt strs n) name)) Unread = rw w at r in
+          ap (afterCompare (nextOf e h i)) (sym s ∙ v) ∙ sym (compare-turn (textFault strs n) (sameBytes (textAt strs n) name) (nextOf e h i))
+      pick false q = let z : _≡_ {A = ℕ} 0 1 = cc in absurd (omega arith)
+
+  pub turn-fails : (i : ℕ) (f : Fault) → NoPlace f ≡ placeOf c e syms i → Fails f ≡ turnOf c e h syms strs name i
+  unfolding turnOf placeOf
+  turn-fails i f p = pick (eqb (entryFault (sizeOf symbol c) (length syms) i .number) 0) p
+    where
+      pick : (t : Bool) → NoPlace f ≡ cond t (Placed (nameOf c e syms i)) (NoPlace (entryFault (sizeOf symbol c) (length syms) i))
+          → Fails f
+          ≡ cond t (answer (textFault strs (nameOf c e syms i)) (cond (sameBytes (textAt strs (nameOf c e syms i)) name) Same (nextOf e h i)) Fails) (Fails (entryFault (sizeOf symbol c) (length syms) i))
+      pick true q = let z : _≡_ {A = ℕ} 0 1 = cc in absurd (omega arith)
+      pick false q = let w : f ≡ entryFault (sizeOf symbol c) (length syms) i = cc in rw w
 
   pub walk-ended : (n : ℕ) → walkOf c e h syms strs name n 0 ≡ Nothing
   unfolding walkOf

@@ -1,6 +1,7 @@
 -- The lookup of a name: along the chain of its bucket, at most as many turns as there are chain entries.
 -- symbolCount c syms                       how many symbols there are: whole entries of the table
 -- nameOf c e syms i                        where in the string table the name of symbol i stands
+-- placeOf c e syms i                       the same, or the fault of symbol i
 -- turnOf c e h syms strs name i            one turn, at symbol i: found, the next index, or the first fault on the way
 -- walkOf c e h syms strs name n i          at most n turns, from the index i on
 -- findOf c e h syms strs name              the lookup
@@ -24,6 +25,8 @@ use Rattle.string_table.specs.Text.{textFault, textAt, lastZero, sameBytes, isC
 use Rattle.hash.specs.Sysv.{sysvHash}
 use Rattle.hash.specs.Table.{bucketCount, chainCount, hashFault, headOf, bucketAt, chainAt}
 use Rattle.hash.specs.declared.Head.{Head}
+use Rattle.hash.specs.declared.GotPlace.{GotPlace}
+use Rattle.hash.specs.declared.GotPlace.the-variants.{Is, Refused as Unread}
 use Rattle.hash.specs.declared.Turn.{Turn}
 use Rattle.hash.specs.declared.Turn.the-variants.{Next, Same, Fails}
 use Rattle.hash.specs.declared.Lookup.{Lookup}
@@ -34,6 +37,9 @@ symbolCount c syms = countOf (sizeOf symbol c) (length syms)
 
 abbrev pub nameOf : Class → Order → List ℕ → ℕ → ℕ
 nameOf c e syms i = symbolAt c e syms (i * sizeOf symbol c) .name
+
+unfoldable pub placeOf : Class → Order → List ℕ → ℕ → GotPlace
+placeOf c e syms i = answer (entryFault (sizeOf symbol c) (length syms) i) (Is (nameOf c e syms i)) Unread
 
 -- the chain is followed where the chain entry can be read
 unfoldable pub nextOf : Order → List ℕ → ℕ → Turn

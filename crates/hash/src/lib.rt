@@ -4,13 +4,16 @@
 // for the end of a string, and so is whether the name holds a zero byte, so no turn looks for one.
 ghost use mathlib.Core.Path.{_≡_};
 ghost use Prim.Native.Nat.{_+_, _*_, _<_, _≤_};
+ghost use mathlib.Core.Bool.{true};
 ghost use lib.ListN.{length};
 ghost use Rattle.endian.specs.Range.{answer, noFault};
 ghost use Rattle.endian.specs.Place.{sizeOf, symbol};
+ghost use Rattle.parse.specs.declared.Found.{Found};
 ghost use Rattle.parse.specs.Entry.{entryFault, countOf};
+ghost use Rattle.string_table.specs.Noted.{Notes};
 ghost use Rattle.hash.specs.Sysv.{sysvStep, sysvHash};
 ghost use Rattle.hash.specs.Table.{hashFault, headOf};
-ghost use Rattle.hash.specs.Find.{nextOf, turnOf, walkOf, findOf, startOf, Ready};
+ghost use Rattle.hash.specs.Find.{symbolCount, nextOf, turnOf, placeOf, walkOf, findOf, startOf, Ready};
 use endian::Class;
 use endian::Fault;
 use endian::Order;
@@ -32,6 +35,12 @@ pub enum GotHead {
 pub enum Lookup {
     At(usize),
     Nothing,
+    Refused(Fault),
+}
+
+// Where a name stands, or what could not be read.
+enum GotPlace {
+    Is(usize),
     Refused(Fault),
 }
 
@@ -119,6 +128,20 @@ fn next(order: Order, h: &[u8], d: Head, i: usize) -> Turn
     Turn::Fails(f)
 }
 
+// Where in the string table the name of symbol i stands.
+fn name_at(class: Class, order: Order, syms: &[u8], whole: usize, i: usize) -> GotPlace
+    requires { ⌜ whole ≡ countOf (sizeOf symbol class) (length (now syms)) ⌝ }
+    ensures { λ r. ⌜ r ≡ placeOf class order (now (syms .entry)) i ⌝ }
+{
+    let f = symbol_fault(class, syms.len(), whole, i);
+    if f.number != 0 {
+        return GotPlace::Refused(f);
+    }
+    let size = symbol::size_of(class);
+    let o = endian::u32_in(order, syms, i * size);
+    GotPlace::Is(o as usize)
+}
+
 // One turn, at symbol i.
 fn one_turn(
     class: Class,
@@ -136,22 +159,22 @@ fn one_turn(
     requires { ⌜ Ready class order (now h) d (now syms) whole (now strs) last (now name) clean ⌝ }
     ensures { λ r. ⌜ r ≡ turnOf class order (now (h .entry)) (now (syms .entry)) (now (strs .entry)) (now (name .entry)) i ⌝ }
 {
-    let f = symbol_fault(class, syms.len(), whole, i);
-    if f.number != 0 {
-        return Turn::Fails(f);
-    }
-    let size = symbol::size_of(class);
-    let o = endian::u32_in(order, syms, i * size);
-    let m = string_table::compare(strs, last, o as usize, name, clean);
-    match m {
-        Compared::Same => Turn::Same,
-        Compared::Other => next(order, h, d, i),
-        Compared::Refused(g) => Turn::Fails(g),
+    let p = name_at(class, order, syms, whole, i);
+    match p {
+        GotPlace::Is(o) => {
+            let m = string_table::compare(strs, last, o, name, clean);
+            match m {
+                Compared::Same => Turn::Same,
+                Compared::Other => next(order, h, d, i),
+                Compared::Refused(g) => Turn::Fails(g),
+            }
+        }
+        GotPlace::Refused(f) => Turn::Fails(f),
     }
 }
 
 // Along the chain of the name's bucket.
-fn walk(
+fn plain_walk(
     class: Class,
     order: Order,
     h: &[u8],
@@ -188,6 +211,118 @@ fn walk(
         left -= 1;
     }
     Lookup::Nothing
+}
+
+// The same of a long name, in a table whose last zero byte stands at `last`.
+fn noted_turn(
+    class: Class,
+    order: Order,
+    h: &[u8],
+    d: Head,
+    syms: &[u8],
+    strs: &[u8],
+    last: usize,
+    name: &[u8],
+    marks: &mut [u8],
+    i: usize,
+) -> Turn
+    requires { ⌜ Ready class order (now h) d (now syms) (symbolCount class (now syms)) (now strs) (Found.At last) (now name) true ⌝ ∗ ⌜ Notes (now strs) (now name) (now marks) ⌝ }
+    ensures { λ r. ⌜ r ≡ turnOf class order (now (h .entry)) (now (syms .entry)) (now (strs .entry)) (now (name .entry)) i ⌝ ∗ ⌜ Notes (now (strs .entry)) (now (name .entry)) (now (marks .exit)) ⌝ }
+{
+    let whole = symbol_count(class, syms.len());
+    let p = name_at(class, order, syms, whole, i);
+    match p {
+        GotPlace::Is(o) => {
+            let f = string_table::fault_with(Found::At(last), strs.len(), o);
+            if f.number != 0 {
+                return Turn::Fails(f);
+            }
+            if string_table::same_noted(strs, last, o, name, marks) {
+                return Turn::Same;
+            }
+            next(order, h, d, i)
+        }
+        GotPlace::Refused(f) => Turn::Fails(f),
+    }
+}
+
+// Along the chain for a long name. This is a loop of its own: one for all names costs a short one a tenth more instructions or more.
+fn noted_walk(
+    class: Class,
+    order: Order,
+    h: &[u8],
+    d: Head,
+    syms: &[u8],
+    strs: &[u8],
+    last: usize,
+    name: &[u8],
+    start: usize,
+) -> Lookup
+    requires { ⌜ Ready class order (now h) d (now syms) (symbolCount class (now syms)) (now strs) (Found.At last) (now name) true ⌝ }
+    ensures { λ r. ⌜ r ≡ walkOf class order (now (h .entry)) (now (syms .entry)) (now (strs .entry)) (now (name .entry)) (d .chains) start ⌝ }
+{
+    let mut marks = [0u8; 1024];
+    let mut i = start;
+    let mut turns = d.chains;
+    while turns > 0 {
+        if i == 0 {
+            return Lookup::Nothing;
+        }
+        let t = noted_turn(class, order, h, d, syms, strs, last, name, &mut marks, i);
+        match t {
+            Turn::Next(j) => {
+                i = j;
+            }
+            Turn::Same => {
+                return Lookup::At(i);
+            }
+            Turn::Fails(f) => {
+                return Lookup::Refused(f);
+            }
+        }
+        turns -= 1;
+    }
+    Lookup::Nothing
+}
+
+// Along the chain. A name that holds a zero byte is nobody's, and a short one is compared in a few steps: neither needs notes.
+fn walk(
+    class: Class,
+    order: Order,
+    h: &[u8],
+    d: Head,
+    syms: &[u8],
+    whole: usize,
+    strs: &[u8],
+    last: Found,
+    name: &[u8],
+    clean: bool,
+    start: usize,
+) -> Lookup
+    requires { ⌜ Ready class order (now h) d (now syms) whole (now strs) last (now name) clean ⌝ }
+    ensures { λ r. ⌜ r ≡ walkOf class order (now (h .entry)) (now (syms .entry)) (now (strs .entry)) (now (name .entry)) (d .chains) start ⌝ }
+{
+    if clean & (name.len() >= 256) {
+        match last {
+            Found::At(l) => {
+                return noted_walk(class, order, h, d, syms, strs, l, name, start);
+            }
+            Found::Nothing => {}
+        }
+    }
+    plain_walk(
+        class,
+        order,
+        h,
+        d,
+        syms,
+        whole,
+        strs,
+        last,
+        name,
+        clean,
+        start,
+    )
 }
 
 // The lookup of a name in the table h, over the symbols and the strings of a file.

@@ -4,6 +4,7 @@ ghost use mathlib.Core.Path.{_≡_};
 ghost use Prim.Native.Nat.{_≤_};
 ghost use Rattle.parse.specs.declared.Found.{Found};
 ghost use Rattle.string_table.specs.Text.{lastZero, isClean};
+ghost use Rattle.string_table.specs.Noted.{Notes};
 ghost use Rattle.string_table.specs.Utf8.{wellFormed};
 ghost use mathlib.Core.Bool.{true};
 ghost use Rattle.elf_bytes.specs.Open.{Whole};
@@ -119,12 +120,12 @@ pub fn name_table(d: &[u8]) -> GotTable
 // ---- a section by its name
 
 // Whether the string at o is the name, which is UTF-8 and holds no zero byte: an offset behind the last zero byte has no string.
-fn is_named(strs: &[u8], last: usize, o: usize, name: &[u8]) -> bool
-    requires { ⌜ lastZero (now strs) ≡ Found.At last ⌝ ∗ ⌜ wellFormed (now name) ≡ true ⌝ ∗ ⌜ isClean (now name) ≡ true ⌝ }
-    ensures { λ r. ⌜ r ≡ textNamed (now (strs .entry)) o (now (name .entry)) ⌝ }
+fn is_named(strs: &[u8], last: usize, o: usize, name: &[u8], marks: &mut [u8]) -> bool
+    requires { ⌜ lastZero (now strs) ≡ Found.At last ⌝ ∗ ⌜ wellFormed (now name) ≡ true ⌝ ∗ ⌜ isClean (now name) ≡ true ⌝ ∗ ⌜ Notes (now strs) (now name) (now marks) ⌝ }
+    ensures { λ r. ⌜ r ≡ textNamed (now (strs .entry)) o (now (name .entry)) ⌝ ∗ ⌜ Notes (now (strs .entry)) (now (name .entry)) (now (marks .exit)) ⌝ }
 {
     if o <= last {
-        return string_table::same_at(strs, last, o, name);
+        return string_table::same_noted(strs, last, o, name, marks);
     }
     false
 }
@@ -134,11 +135,12 @@ fn search(order: Order, t: &[u8], size: usize, strs: &[u8], last: usize, name: &
     requires { ⌜ 4 ≤ size ⌝ ∗ ⌜ lastZero (now strs) ≡ Found.At last ⌝ ∗ ⌜ wellFormed (now name) ≡ true ⌝ ∗ ⌜ isClean (now name) ≡ true ⌝ }
     ensures { λ r. ⌜ r ≡ firstNamed order (now (t .entry)) size (now (strs .entry)) (now (name .entry)) ⌝ }
 {
+    let mut marks = [0u8; 1024];
     let n = t.len() / size;
     let mut i = 0;
     while i < n {
         let o = wide(endian::u32_in(order, t, i * size));
-        if is_named(strs, last, o, name) {
+        if is_named(strs, last, o, name, &mut marks) {
             return Found::At(i);
         }
         i += 1;

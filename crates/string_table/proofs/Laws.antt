@@ -109,7 +109,7 @@ unfolding isClean
 clean-over s x i h = rw (drop-of-length-le s h) (sym (and-true x))
 
 -- no byte of a clean list is zero, and a list is clean where none is
-clean-byte : (s : List ℕ) → isClean s ≡ true → (j : ℕ) → j < length s → getD s j 0 ≡ 0 → ⊥
+pub clean-byte : (s : List ℕ) → isClean s ≡ true → (j : ℕ) → j < length s → getD s j 0 ≡ 0 → ⊥
 unfolding isClean
 clean-byte [] h j g z = omega arith
 clean-byte (b ∷ s) h j g z = pick (clean-byte s) (eqb b 0) refl h j g z
@@ -120,7 +120,7 @@ clean-byte (b ∷ s) h j g z = pick (clean-byte s) (eqb b 0) refl h j g z
     pick f false q r zero g z = eqb-false _ _ q z
     pick f false q r (suc j) g z = f r j (omega arith) z
 
-all-clean : (s : List ℕ) → ((j : ℕ) → j < length s → getD s j 0 ≡ 0 → ⊥) → isClean s ≡ true
+pub all-clean : (s : List ℕ) → ((j : ℕ) → j < length s → getD s j 0 ≡ 0 → ⊥) → isClean s ≡ true
 unfolding isClean
 all-clean [] h = refl
 all-clean (b ∷ s) h = rw (ne-eqb b 0 (h 0 (omega arith)), all-clean s (λ j g. h (suc j) (omega arith)))
@@ -163,7 +163,7 @@ module _ (s : List ℕ) (l o : ℕ) (name : List ℕ) (last : lastZero s ≡ At 
       let w : o + length name - o ≡ length name = omega arith in
       same-equal _ _ (rw (e, w) (a .bytes))
 
-  agrees-same : o ≤ l → textAt s o ≡ name → Agrees s l o name
+  pub agrees-same : o ≤ l → textAt s o ≡ name → Agrees s l o name
   unfolding textAt endOf lastZero
   agrees-same b t = pick (endOf s o) refl t
     where
@@ -178,6 +178,19 @@ module _ (s : List ℕ) (l o : ℕ) (name : List ℕ) (last : lastZero s ≡ At 
       pick Nothing q r =
           let k : true ≡ false = sym (last-at (isZero s) (length s) l last .1) ∙ first-nothing (isZero s) (length s - o) o q l b (omega (arith, last-at (isZero s) (length s) l last .0)) in
           let y : _≡_ {A = ℕ} 0 1 = cc in absurd (omega arith)
+
+  -- a string that is not empty stands before the last zero byte
+  pub stands : textAt s o ≡ name → 0 < length name → o ≤ l
+  unfolding textAt endOf lastZero
+  stands t n = pick (endOf s o) refl t
+    where
+      pick : (f : Found) → firstFrom (isZero s) (length s - o) o ≡ f → upTo s o f ≡ name → o ≤ l
+      pick (At e) q r =
+          let d = first-bounds (isZero s) (length s - o) o e q in
+          let z = first-at (isZero s) (length s - o) o e q .0 in
+          let w = lt-of-not-le {n = suc l} {m = e} (λ g. let k : true ≡ false = sym z ∙ last-at (isZero s) (length s) l last .2 e g (omega arith) in let y : _≡_ {A = ℕ} 0 1 = cc in omega arith) in
+          omega arith
+      pick Nothing q r = let k : length name ≡ 0 = ap length (sym r) in absurd (omega arith)
 
   pub same-refused : o ≤ l → (Agrees s l o name → ⊥) → sameBytes (textAt s o) name ≡ false
   same-refused b n = same-other _ _ (λ e. n (agrees-same b e))

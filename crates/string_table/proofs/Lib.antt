@@ -1,4 +1,5 @@
 pub mod Search
 pub mod Laws
 pub mod Runs
+pub mod Notes
 pub mod Sequences

@@ -1,2 +1,3 @@
 pub mod Text
+pub mod Noted
 pub mod Utf8

@@ -8,6 +8,7 @@ ghost use lib.ListN.{length};
 ghost use Rattle.endian.specs.Range.{answer};
 ghost use Rattle.parse.specs.declared.Found.{Found};
 ghost use Rattle.string_table.specs.Text.{endOf, lastZero, textFault, faultWith, textAt, textRange, sameBytes, sameRun, isClean, compared};
+ghost use Rattle.string_table.specs.Noted.{spanOf, Notes};
 ghost use Rattle.string_table.specs.Utf8.{rowOf, pending, awaited, stepOf, wellFormed, utf8Fault};
 use endian::Fault;
 use endian::Order;
@@ -175,6 +176,44 @@ pub fn same_at(t: &[u8], last: usize, o: usize, name: &[u8]) -> bool
         return false;
     }
     same_run(t, o, name)
+}
+
+// How many offsets one mark stands for: as many as it takes to mark all offsets of a table of len bytes with 1,024 bytes of marks.
+fn span_of(len: usize) -> usize
+    ensures { λ r. ⌜ r ≡ spanOf len ⌝ }
+{
+    len / 8192 + 1
+}
+
+// The same of a long name, where one offset may come many times. A mark stands for a span of offsets. If it is set, the string is
+// not the name at those of them where the name's last bytes, as many as a span has, stand before a zero byte. There is at most one
+// such offset to a mark: the name holds no zero byte, so two of them are more than a span apart. So a comparison reads no more than
+// a span's bytes of the name, but for one at each offset that reads the rest of it.
+pub fn same_noted(t: &[u8], last: usize, o: usize, name: &[u8], marks: &mut [u8]) -> bool
+    requires { ⌜ lastZero (now t) ≡ Found.At last ⌝ ∗ ⌜ o ≤ last ⌝ ∗ ⌜ isClean (now name) ≡ true ⌝ ∗ ⌜ Notes (now t) (now name) (now marks) ⌝ }
+    ensures { λ r. ⌜ r ≡ sameBytes (textAt (now (t .entry)) o) (now (name .entry)) ⌝ ∗ ⌜ Notes (now (t .entry)) (now (name .entry)) (now (marks .exit)) ⌝ }
+{
+    let n = name.len();
+    let span = span_of(t.len());
+    if n <= span {
+        return same_at(t, last, o, name);
+    }
+    if last - o < n {
+        return false;
+    }
+    let front = n - span;
+    if !same_at(t, last, o + front, &name[front..n]) {
+        return false;
+    }
+    let i = o / span;
+    if marks::is_marked(marks, i) {
+        return false;
+    }
+    if same_run(t, o, &name[0..front]) {
+        return true;
+    }
+    marks::mark(marks, i);
+    false
 }
 
 // What a comparison of a string with a name answers.

@@ -6,12 +6,14 @@ use std::time::Duration;
 
 use loadplan_command::ask::digest;
 
-use crate::damage::{damaged, Amount};
+use crate::damage::{damaged, damaged_at_random, Amount};
+use crate::hash_tables::hash_tables;
 use crate::listed::Listed;
-use crate::made::Made;
+use crate::made::{long_files, Made};
 use crate::oracle::{Inputs, Oracle};
 use crate::port::Port;
 use crate::shrink::{smallest, Difference};
+use crate::slow_files::compared_files;
 
 /// How many kinds of differences are made small and shown; one that is there is enough to fail.
 const MOST_KINDS: usize = 20;
@@ -37,6 +39,16 @@ impl Comparison<'_> {
     /// Compares a file and its damaged copies.
     pub fn file(&mut self, file: &Made, amount: Amount) -> io::Result<()> {
         self.inputs(&file.name, &|each| damaged(&file.name, &file.bytes, amount, each))
+    }
+
+    /// Compares files that are made when they are needed: hash tables, with copies damaged at random, long files and slow ones.
+    pub fn made_files(&mut self, amount: Amount) -> io::Result<()> {
+        let (tables, long) = (hash_tables(amount.seed), long_files());
+        self.inputs("hash tables", &|each| {
+            tables.iter().for_each(|file| damaged_at_random(&file.name, &file.bytes, amount, each));
+        })?;
+        self.inputs("long files", &|each| long.iter().for_each(|file| each(&file.bytes)))?;
+        self.inputs("slow files", &|each| compared_files(each))
     }
 
     /// Compares many inputs.

@@ -10,19 +10,19 @@ const SYMBOLS: [usize; 5] = [0, 1, 5, 60, 3000];
 const MANY: usize = 100;
 
 /// A hash table, the symbols that it is of, and their strings.
-#[derive(Clone)]
-struct Table {
-    bucket_count: u32,
-    chain_count: u32,
-    buckets: Vec<u32>,
-    chains: Vec<u32>,
+#[derive(Clone, Default)]
+pub(crate) struct Table {
+    pub bucket_count: u32,
+    pub chain_count: u32,
+    pub buckets: Vec<u32>,
+    pub chains: Vec<u32>,
     /// Where the name of each symbol starts.
-    names: Vec<u32>,
-    strings: Vec<u8>,
+    pub names: Vec<u32>,
+    pub strings: Vec<u8>,
     /// How many bytes of the table there are, if not all.
-    cut: Option<usize>,
+    pub cut: Option<usize>,
     /// Bytes behind it.
-    behind: Vec<u8>,
+    pub behind: Vec<u8>,
 }
 
 /// Every table in a file of every kind.
@@ -72,8 +72,7 @@ fn well_formed(buckets: usize, symbols: usize, random: &mut Random) -> Table {
         chains: vec![0; symbols + 1],
         names: vec![0],
         strings: vec![0],
-        cut: None,
-        behind: Vec::new(),
+        ..Table::default()
     };
     let names: Vec<Vec<u8>> = (0..symbols).map(|number| name(number, random)).collect();
     for name in &names {
@@ -131,7 +130,8 @@ fn damaged(table: &Table) -> Vec<(String, Table)> {
     all
 }
 
-fn file(kind: Kind, table: &Table) -> Vec<u8> {
+/// A file with the table, its symbols and their strings.
+pub(crate) fn file(kind: Kind, table: &Table) -> Vec<u8> {
     let section_names = b"\0.dynsym\0.dynstr\0.hash\0.names\0";
     let symbols: Vec<u8> =
         (0..).zip(&table.names).flat_map(|(number, &name)| kind.symbol(symbol(number, name))).collect();
@@ -161,7 +161,7 @@ fn symbol(number: u64, name: u32) -> Symbol {
 fn table_bytes(kind: Kind, table: &Table) -> Vec<u8> {
     let counts = [table.bucket_count, table.chain_count];
     let words = counts.iter().chain(&table.buckets).chain(&table.chains);
-    let mut bytes: Vec<u8> = words.flat_map(|&word| kind.number(4, word.into())).collect();
+    let mut bytes = kind.numbers(&words.map(|&word| (4, word.into())).collect::<Vec<_>>());
     bytes.truncate(table.cut.unwrap_or(bytes.len()));
     bytes.extend(&table.behind);
     bytes

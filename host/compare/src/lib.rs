@@ -15,3 +15,4 @@ pub mod reading;
 pub mod recorded;
 pub mod rendering;
 pub mod shrink;
+pub mod slow_files;

@@ -4,20 +4,20 @@ use std::fs;
 use std::io;
 use std::path::{Path, PathBuf};
 use std::process::ExitCode;
-use std::time::Instant;
+use std::time::{Duration, Instant};
 
 use loadplan_command::arguments::Arguments;
 use loadplan_command::progress::Progress;
 use loadplan_command::{program, read, Fault};
 use loadplan_compare::compare::{faults_of_the_list, Comparison, Findings};
-use loadplan_compare::damage::{damaged_at_random, Amount};
-use loadplan_compare::hash_tables::hash_tables;
-use loadplan_compare::made::{long_files, made, Made};
+use loadplan_compare::damage::Amount;
+use loadplan_compare::made::{made, Made};
 use loadplan_compare::oracle::Oracle;
 use loadplan_compare::places;
 use loadplan_compare::plans;
 use loadplan_compare::port::Port;
 use loadplan_compare::recorded;
+use loadplan_compare::slow_files::Times;
 
 const HELP: &str = "\
 usage: loadplan-compare [--shared FOLDER | --oracle PROGRAM] [--front BYTES] [--random COUNT] [--seed NUMBER]
@@ -28,7 +28,8 @@ usage: loadplan-compare [--shared FOLDER | --oracle PROGRAM] [--front BYTES] [--
 
 Asks the crate elf and the port about the files (the corpus and hash tables, if none is named) and damaged copies of them:
 each byte of the front set to other values, every length, limits in whole fields, and so many copies damaged at random.
-Prints how many inputs and answers were compared, and each difference once with its smallest input.
+Prints how many inputs and answers were compared, and each difference once with its smallest input. If no file is named, long
+files and such as are made to be slow are compared too, and the port alone is timed on slow files of nearly 1 MiB.
 
   --shared FOLDER    where the crate's text and the script oracle/make are (../shared beside the repository)
   --oracle PROGRAM   the program that asks the crate, built before
@@ -104,8 +105,7 @@ fn compare(mut arguments: Arguments) -> Result<bool, Fault> {
     let of_the_machine = arguments.flag("--machine");
     let port = Port { wrong: arguments.value("--wrong")? };
     let named = arguments.files()?;
-    let (hash_tables, long_files) =
-        if named.is_empty() { (hash_tables(seed), long_files()) } else { (Vec::new(), Vec::new()) };
+    let none_is_named = named.is_empty();
     let since = Instant::now();
     let mut comparison = Comparison { oracle: &oracle, port: &port, findings: Findings::default() };
     let mut progress = Progress::new("inputs compared");
@@ -114,22 +114,17 @@ fn compare(mut arguments: Arguments) -> Result<bool, Fault> {
         progress.done(comparison.findings.inputs as usize, None);
     }
     drop(progress);
-    let of_a_hash_table = Amount { front: 0, random: random / 50, seed };
-    comparison
-        .inputs("hash tables", &|each| {
-            hash_tables.iter().for_each(|file| damaged_at_random(&file.name, &file.bytes, of_a_hash_table, each));
-        })
-        .map_err(cannot_compare)?;
-    comparison
-        .inputs("long files", &|each| long_files.iter().for_each(|file| each(&file.bytes)))
-        .map_err(cannot_compare)?;
+    if none_is_named {
+        comparison.made_files(Amount { front: 0, random: random / 50, seed }).map_err(cannot_compare)?;
+    }
     if of_the_machine {
         comparison.inputs("files of the machine", &|each| machine_files(each)).map_err(cannot_compare)?;
     }
     let faults = faults_of_the_list(&places::differences()?, &oracle, &port).map_err(cannot_compare)?;
     faults.iter().for_each(|fault| println!("listed, but not so: {fault}"));
     let same = report(&comparison, since)?;
-    Ok(same && faults.is_empty())
+    let fast = !none_is_named || time_slow_files();
+    Ok(same && fast && faults.is_empty())
 }
 
 fn cannot_compare(fault: io::Error) -> Fault {
@@ -204,8 +199,25 @@ fn report(comparison: &Comparison<'_>, since: Instant) -> Result<bool, Fault> {
         println!("  crate: {}\n  port:  {}", difference.of_the_crate, difference.of_the_port);
         print_bytes(&input);
     }
-    for (input, took) in slow {
-        println!("  slow: {input} takes {} ms", took.as_millis());
-    }
+    print_slow(slow);
     Ok(differences.is_empty() && slow.is_empty())
+}
+
+fn print_slow(slow: &[(String, Duration)]) {
+    for (what, took) in slow {
+        println!("  slow: {what} takes {} ms", took.as_millis());
+    }
+}
+
+/// Asks the port alone about slow files; whether no answer was slow, and none wrong.
+fn time_slow_files() -> bool {
+    let Times { questions, longest, slow, wrong } = Times::of_long_files();
+    let milliseconds = 1000.0 * longest.as_secs_f64();
+    println!(
+        "timed {questions} questions about slow files: the longest took {milliseconds:.1} ms, {} wrong",
+        wrong.len()
+    );
+    print_slow(&slow);
+    wrong.iter().for_each(|question| println!("  wrong: {question}"));
+    slow.is_empty() && wrong.is_empty()
 }

@@ -138,11 +138,7 @@ impl Kind {
 
     /// The lowest `width` bytes of a number, in the file's order.
     pub fn number(self, width: usize, value: u64) -> Vec<u8> {
-        let mut bytes = value.to_le_bytes()[..width].to_vec();
-        if !self.little {
-            bytes.reverse();
-        }
-        bytes
+        self.numbers(&[(width, value)])
     }
 
     /// The number that bytes hold in the file's order.
@@ -156,7 +152,15 @@ impl Kind {
 
     /// Numbers one behind the other, each behind its width.
     pub fn numbers(self, fields: &[(usize, u64)]) -> Vec<u8> {
-        fields.iter().flat_map(|&(width, value)| self.number(width, value)).collect()
+        let mut bytes = Vec::with_capacity(fields.iter().map(|(width, _)| width).sum());
+        for &(width, value) in fields {
+            let at = bytes.len();
+            bytes.extend_from_slice(&value.to_le_bytes()[..width]);
+            if !self.little {
+                bytes[at..].reverse();
+            }
+        }
+        bytes
     }
 
     pub fn header(self, header: Header) -> Vec<u8> {

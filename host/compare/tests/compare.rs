@@ -3,9 +3,8 @@
 //! What needs the crate's text is passed over, and says so, where that is not at hand.
 
 use loadplan_compare::compare::{faults_of_the_list, Comparison, Findings};
-use loadplan_compare::damage::{damaged_at_random, Amount};
-use loadplan_compare::hash_tables::hash_tables;
-use loadplan_compare::made::{long_files, made};
+use loadplan_compare::damage::Amount;
+use loadplan_compare::made::made;
 use loadplan_compare::oracle::Oracle;
 use loadplan_compare::places;
 use loadplan_compare::plans;
@@ -84,16 +83,7 @@ fn the_crate_and_the_port_answer_the_same() {
     for file in places::corpus().expect("the corpus is there") {
         comparison.file(&file, amount).expect("the comparison works");
     }
-    let tables = hash_tables(1);
-    let few = Amount { random: 2, ..amount };
-    let inputs = |each: &mut dyn FnMut(&[u8])| {
-        tables.iter().for_each(|file| damaged_at_random(&file.name, &file.bytes, few, each))
-    };
-    comparison.inputs("hash tables", &inputs).expect("the comparison works");
-    let long = long_files();
-    comparison
-        .inputs("long files", &|each| long.iter().for_each(|file| each(&file.bytes)))
-        .expect("the comparison works");
+    comparison.made_files(Amount { random: 2, ..amount }).expect("the comparison works");
     let findings = &comparison.findings;
     println!("compared {} inputs, {} answers", findings.inputs, findings.answers);
     assert!(findings.inputs >= 200_000, "{} inputs only", findings.inputs);

@@ -7,10 +7,12 @@ use Rattle.lookup.proofs.is_named.Statement.{statement}
 use Rattle.lookup.proofs.is_named.Tie as tie
 
 returns : tie.Need-returns
-returns c = c .same-at .ensures ∙ named-there _ _ _ _ (c .before .before .before .before .pre .0) (c .before .if1 .taken) (c .before .before .before .before .pre .1 .0)
+returns c =
+    let p = c .before .before .before .before .before .before .before .before .pre in
+    (c .before .before .same-noted .ensures .0 ∙ named-there _ _ _ _ (p .0) (c .before .before .before .before .if1 .taken) (p .1 .0), c .before .before .same-noted .ensures .1)
 
 returns-2 : tie.Need-returns-2
-returns-2 c = sym (named-beyond _ _ _ _ (c .before .before .before .pre .0) (c .if1 .left))
+returns-2 c = let p = c .before .before .before .before .pre in (sym (named-beyond _ _ _ _ (p .0) (c .if1 .left)), p .1 .1 .1)
 
 pub is-named-spec : {M : Type 1} → statement M
-is-named-spec = tie.close (tie.spec (λ c κs. search needs) returns returns-2)
+is-named-spec = tie.close (tie.spec (λ c κs. search needs) (λ c. search needs) returns returns-2)
