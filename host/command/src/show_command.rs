@@ -22,12 +22,15 @@ pub const HELP: &str = "\
 usage: loadplan show FILE
 
 Shows header, segments, sections, symbols and dynamic entries, with the names of types beside their numbers. Addresses,
-offsets and sizes are hexadecimal, except the sizes of symbols.
+offsets and sizes are hexadecimal, except the sizes of symbols. Of a name at most 256 bytes are shown, then three dots.
 
 Exit status: 0; 1 the file or a table in it is refused (the number stands there); 2 wrong use or a file that cannot be read.
 ";
 
 type Elf<'file> = ElfBytes<'file, AnyEndian>;
+
+/// How many bytes of a name are shown: a file can have thousands of names, each nearly as long as the file.
+const SHOWN_BYTES: usize = 256;
 
 pub fn run(arguments: Arguments, output: &mut dyn Write) -> Result<Verdict, Fault> {
     let path = arguments.one_file()?;
@@ -57,13 +60,41 @@ fn visible(name: &[u8]) -> String {
         .collect()
 }
 
-/// The string at an offset, or why there is none.
-fn named(strings: Option<StringTable<'_>>, offset: u64) -> String {
-    match strings.map(|strings| strings.get_raw(offset as usize)) {
-        Some(Ok(name)) => visible(name),
-        Some(Err(fault)) => format!("<refused, {}>", fault.number()),
-        None => String::new(),
+/// A name, or why it cannot be read.
+fn name_or_refusal(name: Result<&[u8], ParseError>) -> String {
+    name.map_or_else(|fault| format!("<refused, {}>", fault.number()), visible)
+}
+
+/// The strings of a table as they are shown. Where the last zero byte stands is found once, so that no name is searched for its end.
+#[derive(Clone, Copy)]
+struct Names<'file> {
+    strings: StringTable<'file>,
+    last_zero: Option<usize>,
+}
+
+impl<'file> Names<'file> {
+    fn new(strings: StringTable<'file>) -> Self {
+        Names { strings, last_zero: strings.as_bytes().iter().rposition(|byte| *byte == 0) }
     }
+
+    /// The string at an offset, cut if it is long, or why there is none.
+    fn at(self, offset: u64) -> String {
+        let (bytes, offset) = (self.strings.as_bytes(), offset as usize);
+        let Some(last) = self.last_zero.filter(|last| offset <= *last) else {
+            // From no offset behind the last zero byte to the table's end is there a string: all are refused as that end is.
+            return name_or_refusal(self.strings.get_raw(offset.max(bytes.len())));
+        };
+        let end = last.min(offset + SHOWN_BYTES);
+        match StringTable::new(&bytes[..=end]).get_raw(offset) {
+            Err(_) => format!("{}...", visible(&bytes[offset..end])),
+            name => name_or_refusal(name),
+        }
+    }
+}
+
+/// The string at an offset, if there are strings.
+fn named(names: Option<Names<'_>>, offset: u64) -> String {
+    names.map_or_else(String::new, |names| names.at(offset))
 }
 
 struct Shown<'output> {
@@ -133,7 +164,7 @@ impl Shown<'_> {
 
     fn sections(&mut self, elf: &Elf<'_>) -> Result<(), Fault> {
         let names = match elf.section_headers_with_strtab() {
-            Ok((_, names)) => names,
+            Ok((_, names)) => names.map(Names::new),
             Err(fault) => {
                 self.refused("section names", fault)?;
                 None
@@ -179,13 +210,14 @@ impl Shown<'_> {
             "  {:>6} {:>16} {:>8}  {:<9} {:<9} {:<11} {:>7} name",
             "nr", "value", "size", "type", "binding", "visibility", "section"
         )?;
+        let names_of_symbols = Names::new(strings);
         for (number, symbol) in symbols.iter().enumerate() {
             let Symbol { st_value, st_size, .. } = symbol;
             let kind = with_number(names::SYMBOL_TYPES, symbol.st_symtype().into());
             let binding = with_number(names::SYMBOL_BINDINGS, symbol.st_bind().into());
             let visibility = with_number(names::VISIBILITIES, symbol.st_vis().into());
             let section = names::symbol_section(symbol.st_shndx);
-            let name = named(Some(strings), symbol.st_name.into());
+            let name = names_of_symbols.at(symbol.st_name.into());
             writeln!(
                 self.output,
                 "  {number:>6} {st_value:>16x} {st_size:>8}  {kind:<9} {binding:<9} {visibility:<11} {section:>7} {name}"
@@ -200,7 +232,7 @@ impl Shown<'_> {
             Ok(None) => return Ok(writeln!(self.output, "\nno dynamic entries")?),
             Err(fault) => return self.refused("dynamic entries", fault),
         };
-        let strings = dynamic_strings(elf);
+        let strings = dynamic_strings(elf).map(Names::new);
         // The format ends the entries at the first NULL; a table may be longer.
         let end = table.iter().position(|entry| entry.d_tag == abi::DT_NULL).map_or(table.len(), |last| last + 1);
         writeln!(self.output, "\ndynamic entries: {end}")?;

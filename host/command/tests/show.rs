@@ -1,15 +1,18 @@
 //! `loadplan show` beside readelf: header, segments, sections, symbols and dynamic entries of the corpus, field by field.
 //!
 //! Both texts are read into the same fields, which are numbers and names as strings. Where readelf shows something else by
-//! intent, the reading of its text says so.
+//! intent, the reading of its text says so. And what is shown of names that are long.
 
 mod common;
 
 use std::collections::BTreeMap;
+use std::ffi::OsStr;
+use std::fs;
 use std::path::Path;
 use std::process::Command;
+use std::time::{Duration, Instant};
 
-use common::{corpus, loadplan, made, name_of, text};
+use common::{corpus, loadplan, made, name_of, text, Folder};
 
 /// Rows of fields.
 type Rows = Vec<Vec<String>>;
@@ -282,4 +285,51 @@ fn a_refused_table_is_said_and_the_rest_is_shown() {
     assert!(text(&output.stdout).contains("sections: 1"));
     let refused = loadplan(["show".as_ref(), Path::new(file!()).as_os_str()]);
     assert_eq!(refused.status.code(), Some(2));
+}
+
+/// A 64-bit file of sections that all have the same name, of so many letters. Section 1 holds it.
+fn file_of_one_name(letters: usize, sections: usize) -> Vec<u8> {
+    let numbers = |width: usize, values: &[u64]| -> Vec<u8> {
+        values.iter().flat_map(|value| value.to_le_bytes()[..width].to_vec()).collect()
+    };
+    let strings = [b"\0", &b"a".repeat(letters)[..], b"\0"].concat();
+    let mut file = b"\x7fELF\x02\x01\x01\0\0\0\0\0\0\0\0\0\x01\0\x3e\0\x01\0\0\0".to_vec();
+    file.extend(numbers(8, &[0, 0, 64]));
+    file.extend(numbers(4, &[0]));
+    file.extend(numbers(2, &[64, 0, 0, 64, sections as u64, 1]));
+    for number in 0..sections {
+        let [kind, offset, size] = if number == 1 { [3, 64 + 64 * sections, strings.len()] } else { [1, 0, 0] };
+        file.extend(numbers(4, &[1, kind as u64]));
+        file.extend(numbers(8, &[0, 0, offset as u64, size as u64]));
+        file.extend(numbers(4, &[0, 0]));
+        file.extend(numbers(8, &[1, 0]));
+    }
+    [file, strings].concat()
+}
+
+#[test]
+fn of_a_long_name_the_start_is_shown() {
+    let folder = Folder::new();
+    let path = folder.file("one-name");
+    for (letters, shown) in [(255, "a".repeat(255)), (256, "a".repeat(256)), (257, "a".repeat(256) + "...")] {
+        fs::write(&path, file_of_one_name(letters, 3)).expect("a file can be written");
+        let output = text(&loadplan([OsStr::new("show"), path.as_os_str()]).stdout);
+        let names: Vec<&str> =
+            lines_behind(&output, "sections:").iter().filter_map(|line| line.split(' ').next_back()).collect();
+        assert_eq!(names[1..], [&shown; 3], "{letters} letters");
+    }
+}
+
+#[test]
+fn thousands_of_long_names_are_shown_at_once() {
+    let folder = Folder::new();
+    let path = folder.file("one-name");
+    let file = file_of_one_name(500_000, 8_000);
+    fs::write(&path, &file).expect("a file can be written");
+    let since = Instant::now();
+    let output = loadplan([OsStr::new("show"), path.as_os_str()]);
+    assert!(since.elapsed() < Duration::from_secs(5), "{:?}", since.elapsed());
+    assert!(output.status.success());
+    assert!(text(&output.stdout).contains("sections: 8000"));
+    assert!(output.stdout.len() < 4 * file.len(), "{} bytes of {}", output.stdout.len(), file.len());
 }
