@@ -1,7 +1,8 @@
 // The SysV hash table: the hash of a name, the table's header, and the lookup of a name.
 // A lookup takes at most as many turns as the table has chain entries. A turn tests one range for the symbol and one for the chain
 // entry, and reads the symbol's name field only. Where the string table's last zero byte stands is found once, so no turn searches
-// for the end of a string, and so is whether the name holds a zero byte, so no turn looks for one.
+// for the end of a string, and so is whether the name holds a zero byte, so no turn looks for one. That a string is not the name is
+// noted if the name is long, so a chain that returns to itself compares no more than one that does not.
 ghost use mathlib.Core.Path.{_≡_};
 ghost use Prim.Native.Nat.{_+_, _*_, _<_, _≤_};
 ghost use mathlib.Core.Bool.{true};
