@@ -1,7 +1,7 @@
 -- The laws of marks: none is there at first, and marking a number marks it and no other.
 -- Assumes nothing.
 use Prim.Native.Nat.{ℕ, zero, suc, _+_, _-_, _*_, _/_, _%_, _^_, _<_, _≤_}
-use native.Mathlib.Nat.{pow-suc, zero-mul, zero-add, one-mul, zero-div, eq-or-lt-of-le}
+use native.Mathlib.Nat.{pow-suc, zero-mul, zero-add, one-mul, zero-div, mod-lt, eq-or-lt-of-le}
 use native.Mathlib.Omega.{arith}
 use mathlib.Core.Path.{_≡_, refl, sym, ap, _∙_}
 use mathlib.Core.Bool.{Bool, true, false}
@@ -9,7 +9,7 @@ use mathlib.Core.Logic.{⊎-elim}
 use mathlib.Core.List.{List}
 use lib.ListN.{length, getD, set, replicate, length-set}
 use lib.Seq.{getD-set-same, getD-set-other}
-use lib.Bits.{bitOr, or-shr, or-mod, or-zero-r}
+use lib.Bits.{bitOr, or-shr, or-mod, or-zero-r, or-comm}
 use lib.Pow.{pow-lt, pow-add, shl-shr, high}
 use lib.Dec.{eqb, ltb}
 use borrow.Author.Tests.{eqb-true, eqb-false, ltb-true, ltb-false}
@@ -51,6 +51,11 @@ other-bit k l n = pick (ltb k l) refl
 own-bit : (k : ℕ) → 2 ^ k / 2 ^ k % 2 ≡ 1
 own-bit k = let e : 2 ^ k / 2 ^ k ≡ 1 = rw (one-mul) at (shl-shr 1 k) in rw e
 
+one-or : (b : ℕ) → b < 2 → eqb (bitOr 1 b) 1 ≡ true
+one-or zero h = refl
+one-or (suc zero) h = refl
+one-or (suc (suc b)) h = absurd (omega arith)
+
 -- what is marked afterwards was marked before, or is the number itself
 pub marking-told : (m : List ℕ) (i j : ℕ) → i < 8 * length m → marked (marking m i) j ≡ true → (i ≡ j → ⊥) → marked m j ≡ true
 unfolding marked marking
@@ -67,13 +72,23 @@ marking-told m i j h e n = pick (eqb (j / 8) (i / 8)) refl
         rw d (rw (d, getD-set-same m (i / 8) v 0 (omega arith), b) at e)
     pick false q = rw (getD-set-other m (i / 8) (j / 8) v 0 (eqb-false _ _ q)) at e
 
+-- what was marked stays so, and the number itself is marked
+pub marking-keeps : (m : List ℕ) (i j : ℕ) → i < 8 * length m → marked m j ≡ true → marked (marking m i) j ≡ true
+unfolding marked marking
+marking-keeps m i j h e = pick (eqb (j / 8) (i / 8)) refl
+  where
+    v : ℕ
+    v = bitOr (getD m (i / 8) 0) (2 ^ (i % 8))
+
+    pick : (x : Bool) → eqb (j / 8) (i / 8) ≡ x → eqb (getD (set m (i / 8) v) (j / 8) 0 / 2 ^ (j % 8) % 2) 1 ≡ true
+    pick true q =
+        let d : j / 8 ≡ i / 8 = eqb-true _ _ q in
+        let o : getD m (i / 8) 0 / 2 ^ (j % 8) % 2 ≡ 1 = eqb-true _ _ (rw d at e) in
+        rw (d, getD-set-same m (i / 8) v 0 (omega arith), bit-or (getD m (i / 8) 0) (i % 8) (j % 8), o) (one-or (2 ^ (i % 8) / 2 ^ (j % 8) % 2) (mod-lt _ (omega arith)))
+    pick false q = rw (getD-set-other m (i / 8) (j / 8) v 0 (eqb-false _ _ q)) e
+
 pub marking-marks : (m : List ℕ) (i : ℕ) → i < 8 * length m → marked (marking m i) i ≡ true
 unfolding marked marking
 marking-marks m i h =
-    let b : getD m (i / 8) 0 / 2 ^ (i % 8) % 2 < 2 = omega arith in
-    rw (getD-set-same m (i / 8) (bitOr (getD m (i / 8) 0) (2 ^ (i % 8))) 0 (omega arith), bit-or (getD m (i / 8) 0) (i % 8) (i % 8), own-bit (i % 8)) (pick _ b)
-  where
-    pick : (b : ℕ) → b < 2 → eqb (bitOr b 1) 1 ≡ true
-    pick zero h = refl
-    pick (suc zero) h = refl
-    pick (suc (suc b)) h = absurd (omega arith)
+    rw (getD-set-same m (i / 8) (bitOr (getD m (i / 8) 0) (2 ^ (i % 8))) 0 (omega arith), bit-or (getD m (i / 8) 0) (i % 8) (i % 8), own-bit (i % 8), or-comm (getD m (i / 8) 0 / 2 ^ (i % 8) % 2) 1)
+    (one-or (getD m (i / 8) 0 / 2 ^ (i % 8) % 2) (mod-lt _ (omega arith)))

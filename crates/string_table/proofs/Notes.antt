@@ -1,21 +1,22 @@
--- The laws of what is noted of strings: at first nothing is, and a mark that is set tells the truth of one offset only.
+-- The laws of what is noted of strings: at first nothing is; a mark tells of one offset only; what is noted is true, stays, and is
+-- noted once.
 -- Assumes nothing.
 use Prim.Native.Nat.{ℕ, zero, suc, _+_, _-_, _*_, _/_, _<_, _≤_}
 use native.Mathlib.Nat.{eq-or-lt-of-le, div-lt-iff-lt-mul, div-mul-le-self, lt-div-mul-add, mul-comm, add-assoc}
 use native.Mathlib.Omega.{arith}
 use mathlib.Core.Path.{_≡_, refl, sym, ap, _∙_}
-use mathlib.Core.Bool.{Bool, true, false}
+use mathlib.Core.Bool.{Bool, true, false, cond, _&&_, not, and-false}
 use mathlib.Core.List.{List}
 use mathlib.Core.Logic.{⊎-elim}
 use lib.ListN.{length, getD, take, drop, replicate, length-take, length-drop}
 use lib.Seq.{getD-take, getD-drop, take-all}
-use lib.Dec.{eqb, leb}
-use borrow.Author.Tests.{eqb-true, eqb-false, leb-true, leb-false}
+use lib.Dec.{eqb, leb, ltb}
+use borrow.Author.Tests.{eqb-true, eqb-false, leb-true, leb-false, ltb-true, ltb-false, le-ltb, lt-ltb}
 use Rattle.marks.specs.Marks.{marked, marking}
-use Rattle.marks.proofs.Laws.{fresh, marking-length, marking-told}
+use Rattle.marks.proofs.Laws.{fresh, marking-length, marking-told, marking-keeps, marking-marks}
 use Rattle.parse.specs.declared.Found.the-variants.{At}
 use Rattle.string_table.specs.Text.{lastZero, textAt, sameBytes, sameRun, isClean}
-use Rattle.string_table.specs.Noted.{spanOf, frontOf, ending, Noted}
+use Rattle.string_table.specs.Noted.{spanOf, frontOf, ending, Noted, noting}
 use Rattle.string_table.proofs.Laws.{Agrees, agrees-same, stands, same-bytes, same-refused, same-known, same-equal, clean-byte, all-clean, run-byte, last-inside}
 use Rattle.string_table.proofs.Runs.{Matched, run-matched, run-other}
 
@@ -30,6 +31,43 @@ none-noted t name =
 -- there is a mark for each offset of the table
 pub marks-room : (t name : List ℕ) (span : ℕ) (marks : List ℕ) → Noted t name span marks → (o : ℕ) → o ≤ length t → o / span < 8 * length marks
 marks-room t name span marks n o h = div-lt-iff-lt-mul (n .some) .1 (omega (arith, n .room, mul-comm span (8 * length marks)))
+
+clash : (b : Bool) → b ≡ true → b ≡ false → ⊥
+clash b p q = let k : true ≡ false = sym p ∙ q in let y : _≡_ {A = ℕ} 0 1 = cc in omega arith
+
+module _ (t name : List ℕ) (span o : ℕ) (marks : List ℕ) where
+  -- what holds of the marks, and of those with one more where one is set, holds of what is noted
+  noting-cases : (P : List ℕ → Type 0) → P marks
+      → (span < length name → ending t name span o ≡ true → marked marks (o / span) ≡ false → sameBytes (textAt t o) name ≡ false → P (marking marks (o / span)))
+      → P (noting t name span o marks)
+  unfolding noting
+  noting-cases P p f = pick (ltb span (length name)) (ending t name span o) (marked marks (o / span)) (sameBytes (textAt t o) name) refl refl refl refl
+    where
+      pick : (a b c d : Bool) → ltb span (length name) ≡ a → ending t name span o ≡ b → marked marks (o / span) ≡ c → sameBytes (textAt t o) name ≡ d
+          → P (cond (a && b && not c && not d) (marking marks (o / span)) marks)
+      pick true true false false w x y z = f (ltb-true _ _ w) x y z
+      pick true true false true w x y z = p
+      pick true true true d w x y z = p
+      pick true false c d w x y z = p
+      pick false b c d w x y z = p
+
+  -- nothing is noted of a short name, where the end of the name does not stand, twice, or where the string is the name
+  pub noting-short : length name ≤ span → noting t name span o marks ≡ marks
+  noting-short h = noting-cases (λ m. m ≡ marks) refl (λ g e k s. absurd (omega arith))
+
+  pub noting-unended : ending t name span o ≡ false → noting t name span o marks ≡ marks
+  noting-unended h = noting-cases (λ m. m ≡ marks) refl (λ g e k s. absurd (clash _ e h))
+
+  pub noting-marked : marked marks (o / span) ≡ true → noting t name span o marks ≡ marks
+  noting-marked h = noting-cases (λ m. m ≡ marks) refl (λ g e k s. absurd (clash _ h k))
+
+  pub noting-same : sameBytes (textAt t o) name ≡ true → noting t name span o marks ≡ marks
+  noting-same h = noting-cases (λ m. m ≡ marks) refl (λ g e k s. absurd (clash _ h s))
+
+  pub noting-new : span < length name → ending t name span o ≡ true → marked marks (o / span) ≡ false → sameBytes (textAt t o) name ≡ false
+      → noting t name span o marks ≡ marking marks (o / span)
+  unfolding noting
+  noting-new h e m s = rw (lt-ltb span (length name) h, e, m, s)
 
 -- the part of a list from k to its end is the rest
 pub rest : (k : ℕ) (s : List ℕ) → take (length s - k) (drop k s) ≡ drop k s
@@ -89,6 +127,17 @@ module _ (t : List ℕ) (l : ℕ) (name : List ℕ) (span : ℕ) (last : lastZer
           let i = last-inside t l last in
           n .other a (marking-told marks (o / span) (a / span) (marks-room t name span marks n o (omega arith)) m (eqb-false _ _ r)) f
 
+  -- where it stands there is room for the name
+  ended-room : (o : ℕ) → ending t name span o ≡ true → o + length name ≤ l
+  ended-room o e = let a = ended o e in let k = tail-length in omega (arith, a .room)
+
+  pub no-room : (o : ℕ) → l < o + length name → ending t name span o ≡ false
+  no-room o h = pick (ending t name span o) refl
+    where
+      pick : (x : Bool) → ending t name span o ≡ x → x ≡ false
+      pick true e = absurd (omega (arith, ended-room o e))
+      pick false e = refl
+
   -- where the end of the name stands, what is before it decides
   pub front-decides : (o : ℕ) → o + length name ≤ l → ending t name span o ≡ true → sameRun t o (take (frontOf span name) name) ≡ sameBytes (textAt t o) name
   unfolding sameRun
@@ -144,3 +193,23 @@ module _ (t : List ℕ) (l : ℕ) (name : List ℕ) (span : ℕ) (last : lastZer
     where
       byte : take (length name) (drop o t) ≡ name → (j : ℕ) → frontOf span name + j < length name → getD t (o + frontOf span name + j) 0 ≡ getD tail j 0
       byte b j q = rw (getD-drop, add-assoc o (frontOf span name) j) (run-byte t o name b (frontOf span name + j) q)
+
+-- what is noted stays true
+pub noting-true : (t : List ℕ) (l : ℕ) (name : List ℕ) (span : ℕ) (marks : List ℕ) → lastZero t ≡ At l → isClean name ≡ true → Noted t name span marks
+    → (o : ℕ) → o ≤ l → Noted t name span (noting t name span o marks)
+noting-true t l name span marks last clean n o h =
+    noting-cases t name span o marks (Noted t name span) n (λ g e k s. noted-more t l name span last clean (n .some) g marks n o h e s)
+
+-- it stays marked, and a string that was compared in full is marked: so that is done once
+pub noting-keeps : (t : List ℕ) (name : List ℕ) (span : ℕ) (marks : List ℕ) → Noted t name span marks → (o : ℕ) → o ≤ length t → (i : ℕ) → marked marks i ≡ true
+    → marked (noting t name span o marks) i ≡ true
+noting-keeps t name span marks n o h i m =
+    noting-cases t name span o marks (λ x. marked x i ≡ true) m (λ g e k s. marking-keeps marks (o / span) i (marks-room t name span marks n o h) m)
+
+pub noting-settles : (t : List ℕ) (name : List ℕ) (span : ℕ) (marks : List ℕ) → Noted t name span marks → (o : ℕ) → o ≤ length t
+    → span < length name → ending t name span o ≡ true → sameBytes (textAt t o) name ≡ false → marked (noting t name span o marks) (o / span) ≡ true
+noting-settles t name span marks n o h g e s = pick (marked marks (o / span)) refl
+  where
+    pick : (x : Bool) → marked marks (o / span) ≡ x → marked (noting t name span o marks) (o / span) ≡ true
+    pick true m = noting-keeps t name span marks n o h (o / span) m
+    pick false m = rw (noting-new t name span o marks g e m s) (marking-marks marks (o / span) (marks-room t name span marks n o h))

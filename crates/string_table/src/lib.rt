@@ -9,7 +9,7 @@ ghost use lib.ListN.{length};
 ghost use Rattle.endian.specs.Range.{answer};
 ghost use Rattle.parse.specs.declared.Found.{Found};
 ghost use Rattle.string_table.specs.Text.{endOf, lastZero, textFault, faultWith, textAt, textRange, sameBytes, sameRun, isClean, compared};
-ghost use Rattle.string_table.specs.Noted.{spanOf, Notes};
+ghost use Rattle.string_table.specs.Noted.{spanOf, Notes, noted};
 ghost use Rattle.string_table.specs.Utf8.{rowOf, pending, awaited, stepOf, wellFormed, utf8Fault};
 use endian::Fault;
 use endian::Order;
@@ -192,7 +192,7 @@ fn span_of(len: usize) -> usize
 // a span's bytes of the name, but for one at each offset that reads the rest of it.
 pub fn same_noted(t: &[u8], last: usize, o: usize, name: &[u8], marks: &mut [u8]) -> bool
     requires { ⌜ lastZero (now t) ≡ Found.At last ⌝ ∗ ⌜ o ≤ last ⌝ ∗ ⌜ isClean (now name) ≡ true ⌝ ∗ ⌜ Notes (now t) (now name) (now marks) ⌝ }
-    ensures { λ r. ⌜ r ≡ sameBytes (textAt (now (t .entry)) o) (now (name .entry)) ⌝ ∗ ⌜ Notes (now (t .entry)) (now (name .entry)) (now (marks .exit)) ⌝ }
+    ensures { λ r. ⌜ r ≡ sameBytes (textAt (now (t .entry)) o) (now (name .entry)) ⌝ ∗ ⌜ now (marks .exit) ≡ noted (now (t .entry)) (now (name .entry)) o (now (marks .entry)) ⌝ }
 {
     let n = name.len();
     let span = span_of(t.len());

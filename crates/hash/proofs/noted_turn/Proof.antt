@@ -7,6 +7,7 @@ use Rattle.endian.proofs.Laws.{answered, refused}
 use Rattle.string_table.specs.Text.{compared}
 use Rattle.string_table.specs.declared.Compared.the-variants.{Refused}
 use Rattle.string_table.proofs.Laws.{fault-told, known-inside}
+use Rattle.string_table.proofs.Notes.{noting-true}
 use Rattle.hash.proofs.Laws.{turn-compared, turn-fails}
 use borrow.Author.Needs.{needs}
 use Rattle.hash.proofs.noted_turn.Statement.{statement}
@@ -25,13 +26,17 @@ same-noted-requires c κs =
 
 returns-2 : tie.Need-returns-2
 returns-2 c =
-    let q = c .before .before .before .before .before .before .before .before .before .before .before .before .before .before .before .before .before .before .pre in
-    (turn-compared _ _ _ _ _ _ _ _ _ _ (sym (c .before .before .before .before .before .before .before .before .before .p .given .1) ∙ c .before .before .before .before .before .before .before .before .before .before .before .name-at .ensures) (ap compared (sym (c .if2 .taken) ∙ c .before .before .before .same-noted .ensures .0) ∙ answered _ _ _ Refused (fault-told _ _ _ _ (q .0 .known) (c .before .before .before .before .before .before .before .fault-with .ensures)) (c .before .before .before .before .before .if1 .left)) refl, c .before .before .before .same-noted .ensures .1)
+    let q = c .before .before .before .before .before .before .before .before .before .before .before .before .before .before .before .before .before .before .pre in (
+      turn-compared _ _ _ _ _ _ _ _ _ _ (sym (c .before .before .before .before .before .before .before .before .before .p .given .1) ∙ c .before .before .before .before .before .before .before .before .before .before .before .name-at .ensures) (ap compared (sym (c .if2 .taken) ∙ c .before .before .before .same-noted .ensures .0) ∙ answered _ _ _ Refused (fault-told _ _ _ _ (q .0 .known) (c .before .before .before .before .before .before .before .fault-with .ensures)) (c .before .before .before .before .before .if1 .left)) refl,
+      rw (c .before .before .before .same-noted .ensures .1) (noting-true _ _ _ _ _ (sym (q .0 .known)) (sym (q .0 .told)) (q .1) _ (known-inside (length (now (c .before .before .before .before .before .before .before .before .before .before .before .before .before .before .before .before .before .before .args .strs))) _ _ _ (c .before .before .before .before .before .before .before .fault-with .ensures) (c .before .before .before .before .before .if1 .left) _ refl)),
+    )
 
 returns-3 : tie.Need-returns-3
 returns-3 c =
-    let q = c .before .before .before .before .before .before .before .before .before .before .before .before .before .before .before .before .before .before .before .pre in
-    (c .next .ensures ∙ turn-compared _ _ _ _ _ _ _ _ _ _ (sym (c .before .before .before .before .before .before .before .before .before .before .p .given .1) ∙ c .before .before .before .before .before .before .before .before .before .before .before .before .name-at .ensures) (ap compared (sym (c .before .if2 .left) ∙ c .before .before .before .before .same-noted .ensures .0) ∙ answered _ _ _ Refused (fault-told _ _ _ _ (q .0 .known) (c .before .before .before .before .before .before .before .before .fault-with .ensures)) (c .before .before .before .before .before .before .if1 .left)) refl, c .before .before .before .before .same-noted .ensures .1)
+    let q = c .before .before .before .before .before .before .before .before .before .before .before .before .before .before .before .before .before .before .before .pre in (
+      c .next .ensures ∙ turn-compared _ _ _ _ _ _ _ _ _ _ (sym (c .before .before .before .before .before .before .before .before .before .before .p .given .1) ∙ c .before .before .before .before .before .before .before .before .before .before .before .before .name-at .ensures) (ap compared (sym (c .before .if2 .left) ∙ c .before .before .before .before .same-noted .ensures .0) ∙ answered _ _ _ Refused (fault-told _ _ _ _ (q .0 .known) (c .before .before .before .before .before .before .before .before .fault-with .ensures)) (c .before .before .before .before .before .before .if1 .left)) refl,
+      rw (c .before .before .before .before .same-noted .ensures .1) (noting-true _ _ _ _ _ (sym (q .0 .known)) (sym (q .0 .told)) (q .1) _ (known-inside (length (now (c .before .before .before .before .before .before .before .before .before .before .before .before .before .before .before .before .before .before .before .args .strs))) _ _ _ (c .before .before .before .before .before .before .before .before .fault-with .ensures) (c .before .before .before .before .before .before .if1 .left) _ refl)),
+    )
 
 returns-4 : tie.Need-returns-4
 returns-4 c =

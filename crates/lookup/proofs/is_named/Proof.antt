@@ -1,6 +1,7 @@
 -- `lookup::is_named` meets its contract.
 -- Assumes nothing.
 use mathlib.Core.Path.{sym, _∙_}
+use Rattle.string_table.proofs.Notes.{noting-true}
 use Rattle.lookup.proofs.Names.{named-there, named-beyond}
 use borrow.Author.Needs.{needs}
 use Rattle.lookup.proofs.is_named.Statement.{statement}
@@ -9,7 +10,7 @@ use Rattle.lookup.proofs.is_named.Tie as tie
 returns : tie.Need-returns
 returns c =
     let p = c .before .before .before .before .before .before .before .before .pre in
-    (c .before .before .same-noted .ensures .0 ∙ named-there _ _ _ _ (p .0) (c .before .before .before .before .if1 .taken) (p .1 .0), c .before .before .same-noted .ensures .1)
+    (c .before .before .same-noted .ensures .0 ∙ named-there _ _ _ _ (p .0) (c .before .before .before .before .if1 .taken) (p .1 .0), rw (c .before .before .same-noted .ensures .1) (noting-true _ _ _ _ _ (p .0) (p .1 .1 .0) (p .1 .1 .1) _ (c .before .before .before .before .if1 .taken)))
 
 returns-2 : tie.Need-returns-2
 returns-2 c = let p = c .before .before .before .before .pre in (sym (named-beyond _ _ _ _ (p .0) (c .if1 .left)), p .1 .1 .1)

@@ -8,16 +8,26 @@ use denote.Ref.{now}
 use borrow.Author.Tests.{not-true, not-false}
 use Rattle.string_table.specs.Noted.{frontOf, Noted}
 use Rattle.string_table.proofs.Laws.{same-refused, last-inside}
-use Rattle.string_table.proofs.Notes.{rest, marks-room, tail-clean, noted-more, front-decides, no-ending}
+use Rattle.string_table.proofs.Notes.{rest, marks-room, tail-clean, front-decides, no-ending, no-room, noting-short, noting-unended, noting-marked, noting-same, noting-new}
 use borrow.Author.Needs.{needs}
 use Rattle.string_table.proofs.same_noted.Statement.{statement}
 use Rattle.string_table.proofs.same_noted.Tie as tie
+
+returns : tie.Need-returns
+returns c =
+    let a = c .before .before .before .before .before .before .args in
+    let p = c .before .before .before .before .before .before .pre in
+    let s = c .before .before .span-of .result in
+    let n : Noted (now (a .t)) (now (a .name)) s (now (a .marks)) = rw (c .before .before .span-of .ensures) (p .1 .1 .1) in
+    (c .same-at .ensures, sym ((rw (c .before .before .span-of .ensures) at (noting-short (now (a .t)) (now (a .name)) s (a .o) (now (a .marks)) (c .before .if1 .taken)))))
 
 returns-2 : tie.Need-returns-2
 returns-2 c =
     let a = c .before .before .before .before .before .before .args in
     let p = c .before .before .before .before .before .before .pre in
-    (sym (same-refused _ _ _ _ (p .0) (p .1 .0) (λ g. omega (arith, g .room))), p .1 .1 .1)
+    let s = c .before .before .span-of .result in
+    let n : Noted (now (a .t)) (now (a .name)) s (now (a .marks)) = rw (c .before .before .span-of .ensures) (p .1 .1 .1) in
+    (sym (same-refused _ _ _ _ (p .0) (p .1 .0) (λ g. omega (arith, g .room))), sym ((rw (c .before .before .span-of .ensures) at (noting-unended (now (a .t)) (now (a .name)) s (a .o) (now (a .marks)) (no-room (now (a .t)) (a .last) (now (a .name)) s (p .0) (p .1 .1 .0) (n .some) (omega arith) (a .o) (omega (arith, p .1 .0)))))))
 
 same-at-requires-2 : tie.Need-same-at-requires-2
 same-at-requires-2 c κs =
@@ -34,7 +44,8 @@ returns-3 c =
     let s = c .before .before .before .before .before .span-of .result in
     let n : Noted (now (a .t)) (now (a .name)) s (now (a .marks)) = rw (c .before .before .before .before .before .span-of .ensures) (p .1 .1 .1) in
     let e = rw (rest (frontOf s (now (a .name))) (now (a .name))) at (c .before .same-at2 .ensures) in
-    (sym (no-ending (now (a .t)) (a .last) (now (a .name)) s (p .0) (p .1 .1 .0) (n .some) (omega arith) (a .o) (omega (arith, p .1 .0)) (sym e ∙ not-true _ (c .if3 .taken))), p .1 .1 .1)
+    let f = sym e ∙ not-true _ (c .if3 .taken) in
+    (sym (no-ending (now (a .t)) (a .last) (now (a .name)) s (p .0) (p .1 .1 .0) (n .some) (omega arith) (a .o) (omega (arith, p .1 .0)) f), sym ((rw (c .before .before .before .before .before .span-of .ensures) at (noting-unended (now (a .t)) (now (a .name)) s (a .o) (now (a .marks)) f))))
 
 is-marked-requires : tie.Need-is-marked-requires
 is-marked-requires c κs =
@@ -51,7 +62,9 @@ returns-4 c =
     let s = c .before .before .before .before .before .before .before .before .span-of .result in
     let n : Noted (now (a .t)) (now (a .name)) s (now (a .marks)) = rw (c .before .before .before .before .before .before .before .before .span-of .ensures) (p .1 .1 .1) in
     let e = rw (rest (frontOf s (now (a .name))) (now (a .name))) at (c .before .before .before .before .same-at2 .ensures) in
-    (sym (n .other (a .o) (sym (c .before .is-marked .ensures) ∙ c .if4 .taken) (sym e ∙ not-false _ (c .before .before .before .if3 .left))), p .1 .1 .1)
+    let f = sym e ∙ not-false _ (c .before .before .before .if3 .left) in
+    let m = sym (c .before .is-marked .ensures) ∙ c .if4 .taken in
+    (sym (n .other (a .o) m f), sym ((rw (c .before .before .before .before .before .before .before .before .span-of .ensures) at (noting-marked (now (a .t)) (now (a .name)) s (a .o) (now (a .marks)) m))))
 
 same-run-requires : tie.Need-same-run-requires
 same-run-requires c κs =
@@ -66,8 +79,10 @@ returns-5 c =
     let s = c .before .before .before .before .before .before .before .before .before .before .before .span-of .result in
     let n : Noted (now (a .t)) (now (a .name)) s (now (a .marks)) = rw (c .before .before .before .before .before .before .before .before .before .before .before .span-of .ensures) (p .1 .1 .1) in
     let e = rw (rest (frontOf s (now (a .name))) (now (a .name))) at (c .before .before .before .before .before .before .before .same-at2 .ensures) in
-    let d = front-decides (now (a .t)) (a .last) (now (a .name)) s (p .0) (p .1 .1 .0) (n .some) (omega arith) (a .o) (omega (arith, p .1 .0)) (sym e ∙ not-false _ (c .before .before .before .before .before .before .if3 .left)) in
-    (sym (c .if5 .taken) ∙ (rw sub-zero at (c .before .same-run .ensures)) ∙ d, p .1 .1 .1)
+    let f = sym e ∙ not-false _ (c .before .before .before .before .before .before .if3 .left) in
+    let d = front-decides (now (a .t)) (a .last) (now (a .name)) s (p .0) (p .1 .1 .0) (n .some) (omega arith) (a .o) (omega (arith, p .1 .0)) f in
+    let r = sym (c .if5 .taken) ∙ (rw sub-zero at (c .before .same-run .ensures)) ∙ d in
+    (r, sym ((rw (c .before .before .before .before .before .before .before .before .before .before .before .span-of .ensures) at (noting-same (now (a .t)) (now (a .name)) s (a .o) (now (a .marks)) (sym r)))))
 
 mark-requires : tie.Need-mark-requires
 mark-requires c κs =
@@ -84,10 +99,11 @@ returns-6 c =
     let s = c .before .before .before .before .before .before .before .before .before .before .before .before .before .before .before .span-of .result in
     let n : Noted (now (a .t)) (now (a .name)) s (now (a .marks)) = rw (c .before .before .before .before .before .before .before .before .before .before .before .before .before .before .before .span-of .ensures) (p .1 .1 .1) in
     let e = rw (rest (frontOf s (now (a .name))) (now (a .name))) at (c .before .before .before .before .before .before .before .before .before .before .before .same-at2 .ensures) in
-    let d = front-decides (now (a .t)) (a .last) (now (a .name)) s (p .0) (p .1 .1 .0) (n .some) (omega arith) (a .o) (omega (arith, p .1 .0)) (sym e ∙ not-false _ (c .before .before .before .before .before .before .before .before .before .before .if3 .left)) in
+    let f = sym e ∙ not-false _ (c .before .before .before .before .before .before .before .before .before .before .if3 .left) in
+    let d = front-decides (now (a .t)) (a .last) (now (a .name)) s (p .0) (p .1 .1 .0) (n .some) (omega arith) (a .o) (omega (arith, p .1 .0)) f in
     let r = sym (c .before .before .before .before .if5 .left) ∙ (rw sub-zero at (c .before .before .before .before .before .same-run .ensures)) ∙ d in
-    let m = noted-more (now (a .t)) (a .last) (now (a .name)) s (p .0) (p .1 .1 .0) (n .some) (omega arith) _ n (a .o) (p .1 .0) (sym e ∙ not-false _ (c .before .before .before .before .before .before .before .before .before .before .if3 .left)) (sym r) in
-    (r, rw (c .before .before .mark .ensures, ← (c .before .before .before .before .before .before .before .before .before .before .before .before .before .before .before .span-of .ensures)) m)
+    let m = sym (c .before .before .before .before .before .before .before .before .is-marked .ensures) ∙ c .before .before .before .before .before .before .before .if4 .left in
+    (r, rw (c .before .before .before .before .before .before .before .before .before .before .before .before .before .before .before .span-of .ensures) at (c .before .before .mark .ensures ∙ sym (noting-new (now (a .t)) (now (a .name)) s (a .o) (now (a .marks)) (omega arith) f m (sym r))))
 
 pub same-noted-spec : {M : Type 1} → statement M
 same-noted-spec =
@@ -95,7 +111,7 @@ same-noted-spec =
     (tie.spec
     (λ c κs. search needs)
     (λ c κs. search needs)
-    (λ c. search needs)
+    returns
     (λ c. search needs)
     returns-2
     (λ c. search needs)
