@@ -286,7 +286,7 @@ fn noted_walk(
     Lookup::Nothing
 }
 
-// Along the chain. A name that holds a zero byte is nobody's, and a short one is compared in a few steps: neither needs notes.
+// Along the chain. A name that holds a zero byte is nobody's, and a short one is compared in a few turns: neither needs notes.
 fn walk(
     class: Class,
     order: Order,
@@ -303,7 +303,8 @@ fn walk(
     requires { ⌜ Ready class order (now h) d (now syms) whole (now strs) last (now name) clean ⌝ }
     ensures { λ r. ⌜ r ≡ walkOf class order (now (h .entry)) (now (syms .entry)) (now (strs .entry)) (now (name .entry)) (d .chains) start ⌝ }
 {
-    if clean & (name.len() >= 256) {
+    let long = string_table::is_long(name);
+    if clean & long {
         match last {
             Found::At(l) => {
                 return noted_walk(class, order, h, d, syms, strs, l, name, start);

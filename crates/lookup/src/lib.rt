@@ -124,10 +124,13 @@ fn is_named(strs: &[u8], last: usize, o: usize, name: &[u8], marks: &mut [u8]) -
     requires { ⌜ lastZero (now strs) ≡ Found.At last ⌝ ∗ ⌜ wellFormed (now name) ≡ true ⌝ ∗ ⌜ isClean (now name) ≡ true ⌝ ∗ ⌜ Notes (now strs) (now name) (now marks) ⌝ }
     ensures { λ r. ⌜ r ≡ textNamed (now (strs .entry)) o (now (name .entry)) ⌝ ∗ ⌜ Notes (now (strs .entry)) (now (name .entry)) (now (marks .exit)) ⌝ }
 {
-    if o <= last {
+    if last < o {
+        return false;
+    }
+    if string_table::is_long(name) {
         return string_table::same_noted(strs, last, o, name, marks);
     }
-    false
+    string_table::same_at(strs, last, o, name)
 }
 
 // The first section whose name, at the offset that stands first in its header, is the name.

@@ -1,4 +1,5 @@
 -- What is noted of the strings of a table that were compared with one name.
+-- isLong name                a name is long from 256 bytes on
 -- spanOf len                 how many offsets one mark stands for, in a table of len bytes
 -- frontOf span name          how many bytes of a name stand before its last span bytes
 -- ending t name span o       the last span bytes of the name are a string of the table, where they stand if the name stands at o
@@ -13,9 +14,12 @@ use mathlib.Core.Path.{_≡_}
 use mathlib.Core.Bool.{Bool, true, false, cond, _&&_, not}
 use mathlib.Core.List.{List}
 use lib.ListN.{length, drop}
-use lib.Dec.{ltb}
+use lib.Dec.{ltb, leb}
 use Rattle.marks.specs.Marks.{marked, marking}
 use Rattle.string_table.specs.Text.{textAt, sameBytes}
+
+abbrev pub isLong : List ℕ → Bool
+isLong name = leb 256 (length name)
 
 abbrev pub spanOf : ℕ → ℕ
 spanOf len = len / 8192 + 1

@@ -9,7 +9,7 @@ ghost use lib.ListN.{length};
 ghost use Rattle.endian.specs.Range.{answer};
 ghost use Rattle.parse.specs.declared.Found.{Found};
 ghost use Rattle.string_table.specs.Text.{endOf, lastZero, textFault, faultWith, textAt, textRange, sameBytes, sameRun, isClean, compared};
-ghost use Rattle.string_table.specs.Noted.{spanOf, Notes, noted};
+ghost use Rattle.string_table.specs.Noted.{isLong, spanOf, Notes, noted};
 ghost use Rattle.string_table.specs.Utf8.{rowOf, pending, awaited, stepOf, wellFormed, utf8Fault};
 use endian::Fault;
 use endian::Order;
@@ -177,6 +177,13 @@ pub fn same_at(t: &[u8], last: usize, o: usize, name: &[u8]) -> bool
         return false;
     }
     same_run(t, o, name)
+}
+
+// Whether a name is so long that it is worth noting which strings are not the name: a shorter one is compared in 32 turns at most.
+pub fn is_long(name: &[u8]) -> bool
+    ensures { λ r. ⌜ r ≡ isLong (now (name .entry)) ⌝ }
+{
+    name.len() >= 256
 }
 
 // How many offsets one mark stands for: as many as it takes to mark all offsets of a table of len bytes with 1,024 bytes of marks.

@@ -12,7 +12,7 @@ first false b h = h
 
 noted-walk-requires : tie.Need-noted-walk-requires
 noted-walk-requires c κs =
-    let r = c .before .before .before .before .before .before .before .before .pre in
+    let r = c .before .before .before .before .before .before .before .before .before .pre in
     record {
       fine = r .fine;
       head = r .head;
@@ -24,4 +24,4 @@ noted-walk-requires c κs =
 pub walk-spec : {M : Type 1} → statement M
 walk-spec =
     tie.close
-    (tie.spec (λ c. search needs) noted-walk-requires (λ c. search needs) (λ c. search needs) (λ c κs. search needs) (λ c. search needs))
+    (tie.spec (λ c κs. search needs) (λ c. search needs) noted-walk-requires (λ c. search needs) (λ c. search needs) (λ c κs. search needs) (λ c. search needs))
