@@ -33,6 +33,13 @@ pub last-inside : (s : List ℕ) (l : ℕ) → lastZero s ≡ At l → l < lengt
 unfolding lastZero
 last-inside s l h = last-at (isZero s) (length s) l h .0
 
+-- no zero byte is behind it
+not-behind : (s : List ℕ) (l e : ℕ) → lastZero s ≡ At l → e < length s → isZero s e ≡ true → e ≤ l
+unfolding lastZero
+not-behind s l e h i z =
+    let w = lt-of-not-le {n = suc l} {m = e} (λ g. let k : true ≡ false = sym z ∙ last-at (isZero s) (length s) l h .2 e g i in let y : _≡_ {A = ℕ} 0 1 = cc in omega arith) in
+    omega arith
+
 -- where the last zero byte is known, a string stands at each offset up to it, and at no other
 pub known-end : (s : List ℕ) (o : ℕ) → o ≤ length s → noneFrom o (lastZero s) ≡ noEnd (endOf s o)
 unfolding lastZero endOf
@@ -173,7 +180,7 @@ module _ (s : List ℕ) (l o : ℕ) (name : List ℕ) (last : lastZero s ≡ At 
           let z = first-at (isZero s) (length s - o) o e q .0 in
           let n : length name ≡ e - o = ap length (sym r) ∙ simp (length-take, length-drop) (omega arith) in
           let m : o + length name ≡ e = omega arith in
-          let w = lt-of-not-le {n = suc l} {m = e} (λ g. let k : true ≡ false = sym z ∙ last-at (isZero s) (length s) l last .2 e g (omega arith) in let y : _≡_ {A = ℕ} 0 1 = cc in omega arith) in
+          let w = not-behind s l e last (omega arith) z in
           record { room = omega arith; ends = rw m (eqb-true _ _ z); bytes = rw n r }
       pick Nothing q r =
           let k : true ≡ false = sym (last-at (isZero s) (length s) l last .1) ∙ first-nothing (isZero s) (length s - o) o q l b (omega (arith, last-at (isZero s) (length s) l last .0)) in
@@ -188,7 +195,7 @@ module _ (s : List ℕ) (l o : ℕ) (name : List ℕ) (last : lastZero s ≡ At 
       pick (At e) q r =
           let d = first-bounds (isZero s) (length s - o) o e q in
           let z = first-at (isZero s) (length s - o) o e q .0 in
-          let w = lt-of-not-le {n = suc l} {m = e} (λ g. let k : true ≡ false = sym z ∙ last-at (isZero s) (length s) l last .2 e g (omega arith) in let y : _≡_ {A = ℕ} 0 1 = cc in omega arith) in
+          let w = not-behind s l e last (omega arith) z in
           omega arith
       pick Nothing q r = let k : length name ≡ 0 = ap length (sym r) in absurd (omega arith)
 

@@ -20,20 +20,20 @@ use Rattle.string_table.specs.Noted.{spanOf, frontOf, ending, Noted, not
 use Rattle.string_table.proofs.Laws.{Agrees, agrees-same, stands, same-bytes, same-refused, same-known, same-equal, clean-byte, all-clean, run-byte, last-inside}
 use Rattle.string_table.proofs.Runs.{Matched, run-matched, run-other}
 
+clash : (b : Bool) → b ≡ true → b ≡ false → ⊥
+clash b p q = let k : true ≡ false = sym p ∙ q in let y : _≡_ {A = ℕ} 0 1 = cc in omega arith
+
 pub none-noted : (t name : List ℕ) → Noted t name (spanOf (length t)) (replicate 1024 0)
 none-noted t name =
     record {
       some = omega arith;
       room = omega arith;
-      other = λ o m e. let k : true ≡ false = sym m ∙ fresh 1024 (o / spanOf (length t)) in let y : _≡_ {A = ℕ} 0 1 = cc in absurd (omega arith);
+      other = λ o m e. absurd (clash _ m (fresh 1024 (o / spanOf (length t))));
     }
 
 -- there is a mark for each offset of the table
 pub marks-room : (t name : List ℕ) (span : ℕ) (marks : List ℕ) → Noted t name span marks → (o : ℕ) → o ≤ length t → o / span < 8 * length marks
 marks-room t name span marks n o h = div-lt-iff-lt-mul (n .some) .1 (omega (arith, n .room, mul-comm span (8 * length marks)))
-
-clash : (b : Bool) → b ≡ true → b ≡ false → ⊥
-clash b p q = let k : true ≡ false = sym p ∙ q in let y : _≡_ {A = ℕ} 0 1 = cc in omega arith
 
 module _ (t name : List ℕ) (span o : ℕ) (marks : List ℕ) where
   -- what holds of the marks, and of those with one more where one is set, holds of what is noted
@@ -175,9 +175,7 @@ module _ (t : List ℕ) (l : ℕ) (name : List ℕ) (span : ℕ) (last : lastZer
           let k = front-length in
           sym (run-other t o name (λ m.
           let w : sameRun t o front ≡ true = run-matched t o front (omega arith) (λ j p q. let u : j < frontOf span name = omega arith in rw (getD-take) (m j (omega arith) (omega arith))) in
-          let f : true ≡ false = sym w ∙ r in
-          let y : _≡_ {A = ℕ} 0 1 = cc in
-          omega arith))
+          clash _ w r))
 
   -- where it does not stand, the name does not
   pub no-ending : (o : ℕ) → o + length name ≤ l → ending t name span o ≡ false → sameBytes (textAt t o) name ≡ false
@@ -187,9 +185,7 @@ module _ (t : List ℕ) (l : ℕ) (name : List ℕ) (span : ℕ) (last : lastZer
       same-refused t l o name last (omega arith) (λ g.
       let w : o + length name ≡ o + frontOf span name + length tail = omega arith in
       let m : sameRun t (o + frontOf span name) tail ≡ true = run-matched t (o + frontOf span name) tail (omega arith) (λ j p q. byte (g .bytes) j (omega arith)) in
-      let f = sym m ∙ same-bytes t l (o + frontOf span name) tail last (omega arith) tail-clean (omega arith) (rw w at (g .ends)) ∙ e in
-      let y : _≡_ {A = ℕ} 0 1 = cc in
-      omega arith)
+      clash _ m (same-bytes t l (o + frontOf span name) tail last (omega arith) tail-clean (omega arith) (rw w at (g .ends)) ∙ e))
     where
       byte : take (length name) (drop o t) ≡ name → (j : ℕ) → frontOf span name + j < length name → getD t (o + frontOf span name + j) 0 ≡ getD tail j 0
       byte b j q = rw (getD-drop, add-assoc o (frontOf span name) j) (run-byte t o name b (frontOf span name + j) q)

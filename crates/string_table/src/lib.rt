@@ -1,7 +1,7 @@
 // Strings of a string table: where one ends, whether one stands at an offset, its bytes as a range, as UTF-8, and whether it is a given name.
 // Where many strings of one table are asked for, `last_zero` is asked once: then `fault_with` tells in one step whether a string
 // stands at an offset, and `same_at` compares it with a name without a search for its end, eight bytes at a time. Where one offset
-// may be asked about again and again, `same_noted` compares a long name in full only once with each string.
+// may be asked about again and again, `same_noted` compares a name that is longer than a span in full only once with each string.
 ghost use mathlib.Core.Path.{_≡_};
 ghost use mathlib.Core.Bool.{true};
 ghost use Prim.Native.Nat.{_+_, _≤_};

@@ -16,9 +16,7 @@ use Rattle.string_table.proofs.same_noted.Tie as tie
 returns : tie.Need-returns
 returns c =
     let a = c .before .before .before .before .before .before .args in
-    let p = c .before .before .before .before .before .before .pre in
     let s = c .before .before .span-of .result in
-    let n : Noted (now (a .t)) (now (a .name)) s (now (a .marks)) = rw (c .before .before .span-of .ensures) (p .1 .1 .1) in
     (c .same-at .ensures, sym ((rw (c .before .before .span-of .ensures) at (noting-short (now (a .t)) (now (a .name)) s (a .o) (now (a .marks)) (c .before .if1 .taken)))))
 
 returns-2 : tie.Need-returns-2
