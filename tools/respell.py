@@ -16,7 +16,12 @@ GOAL = re.compile(r":\s+(?:\([^)]*\)\s+→\s+)*tie\.")
 WORD = re.compile(r"(?<![^\s(){}.;,@\"«»`\[\]])[^\s(){}.;,@\"«»`\[\]]+(?![^\s(){}.;,@\"«»`\[\]])")
 # these fall together with a definition that the same file sees; the second is a field in one crate and a lemma in another
 BY_HAND = {"good-window": "window_good", "table-in": "table_in_lem"}
-BY_HAND_IN = {"./crates/load_plan/": {"table-in": "table_in_file"}}
+BY_HAND_IN = {
+    "./crates/load_plan/": {"table-in": "table_in_file"},
+    # the kit's script has turned this law's name already, and the definition's falls together with it
+    "./crates/string_table/proofs/": {"same_bytes": "same_bytes_lem"},
+    "./crates/marks/proofs/": {"bit-or": "bit_or_power", "bit_or": "bit_or"},
+}
 
 
 def files(*ends):
@@ -71,8 +76,21 @@ def steps():
     return {n.replace("_", "-") for n in found}
 
 
+def borrowed(text):
+    """What a file brings in from a library: these words keep their spelling there."""
+    found = set()
+    for path, items in re.findall(r"^use ([^\s{]+)\.\{([^}]*)\}", text, re.M):
+        if not path.startswith("Rattle.") or path.startswith("Rattle.std"):
+            found |= {i.strip() for i in items.split(",")}
+    return found
+
+
 def turned(text, rows, kept=()):
+    theirs = borrowed(text)
+
     def word(m):
+        if m[0] in theirs:
+            return m[0]
         if m[0] in kept and m.start() and text_of[0][m.start() - 1] == ".":
             return m[0]
         return rows.get(m[0], m[0])
@@ -114,7 +132,8 @@ def main():
         if path.endswith(".md"):
             new = turned_page(old, known)
         elif path.endswith(".rt"):
-            new = turned(old, {n: s for n, s in mine.items() if "-" not in n})
+            # a name with a dash can only be antt's there: rt fmt puts spaces about a minus
+            new = turned(old, mine)
         else:
             new = turned(old, mine, kept if "/proofs/" in path and path.count("/") > 4 else ())
         if new != old:

@@ -1,7 +1,7 @@
 // The common data of a file in one walk over its sections: both symbol tables, the dynamic entries, the hash table.
 // Later sections replace earlier ones, and any fault among them is the answer.
 ghost use Rattle.std.specs.Prelude.{◌≡◌, ◌+◌, ◌^◌, ◌≤◌, ◌<◌, length};
-ghost use Rattle.endian.specs.Place.{size_of, section-header};
+ghost use Rattle.endian.specs.Place.{size_of, section_header};
 ghost use Rattle.parse.specs.Entry.{count_of};
 ghost use Rattle.section.specs.Layout.{section_at};
 ghost use Rattle.elf_bytes.specs.Open.{Whole};
@@ -15,7 +15,7 @@ use hash::GotHead;
 use parse::{GotRange, Range};
 
 // A file's symbol tables of types 2 and 11, its dynamic entries, and its hash table from the header to the end of the chains.
-#[derive(Drop)]
+#[derive(Clone, Copy)]
 pub struct Common {
     pub symtab: Symbols,
     pub dynsym: Symbols,
@@ -23,7 +23,7 @@ pub struct Common {
     pub hash: Table,
 }
 
-#[derive(Drop)]
+#[derive(Clone, Copy)]
 pub enum GotCommon {
     Is(Common),
     Refused(Fault),
@@ -84,7 +84,7 @@ fn hash_of(order: Order, d: &[u8], offset: usize, size: usize) -> GotTable
 
 // The symbols that the section header at o of the table t says.
 fn symbols_of(class: Class, order: Order, t: &[u8], d: &[u8], o: usize) -> GotSymbols
-    requires { o + size_of section-header class ≤ length t.now }
+    requires { o + size_of section_header class ≤ length t.now }
     ensures { result ≡ symbols_by class order t.now (length d.now) (section_at class order t.now o) }
 {
     let x = section::extent_in(class, order, t, o);
@@ -102,8 +102,8 @@ fn symbols_of(class: Class, order: Order, t: &[u8], d: &[u8], o: usize) -> GotSy
 
 // The dynamic entries (type 6), else the hash table, that it says.
 fn table_of(class: Class, order: Order, t: &[u8], d: &[u8], kind: u32, o: usize) -> GotTable
-    requires fact_1 { o + size_of section-header class ≤ length t.now }
-    requires fact_2 { kind ≡ (section_at class order t.now o).kind }
+    requires room { o + size_of section_header class ≤ length t.now }
+    requires kind_is { kind ≡ (section_at class order t.now o).kind }
     ensures { result ≡ table_by class order d.now (section_at class order t.now o) }
 {
     let x = section::extent_in(class, order, t, o);
@@ -125,9 +125,9 @@ fn table_of(class: Class, order: Order, t: &[u8], d: &[u8], kind: u32, o: usize)
 // What the sections of the table t add. Most add nothing, so a section's type is looked at first; the four parts are kept
 // apart, so that a section that adds one copies no other.
 fn gather_in(elf: Elf, r: Range, d: &[u8], t: &[u8]) -> GotCommon
-    requires fact_1 { elf.sections ≡ Table.At r }
-    requires fact_2 { t.now ≡ part_of d.now r }
-    ensures { result ≡ below_of d.now elf (count_of (size_of section-header elf.class) (length t.now)) }
+    requires sections_at { elf.sections ≡ Table.At r }
+    requires headers { t.now ≡ part_of d.now r }
+    ensures { result ≡ below_of d.now elf (count_of (size_of section_header elf.class) (length t.now)) }
 {
     let class = elf.class;
     let size = section::size_of(class);

@@ -13,19 +13,19 @@ use section::{Extent, GotSectionHeader};
 use segment::GotProgramHeader;
 
 // Symbols and their strings.
-#[derive(Drop)]
+#[derive(Clone, Copy)]
 pub struct SymbolTable {
     pub symbols: Range,
     pub strings: Range,
 }
 
-#[derive(Drop)]
+#[derive(Clone, Copy)]
 pub enum Symbols {
     Absent,
     At(SymbolTable),
 }
 
-#[derive(Drop)]
+#[derive(Clone, Copy)]
 pub enum GotSymbols {
     Is(Symbols),
     Refused(Fault),

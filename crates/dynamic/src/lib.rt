@@ -1,5 +1,7 @@
 // Dynamic entries: the entry at an offset, and entry i of a table, in both classes and both orders.
 // The tag is signed, as wide as in 64-bit entries. `dyn_in` is for a caller that has tested the range of the whole entry.
+#![tactic(auto)]
+
 ghost use Rattle.std.specs.Prelude.{◌≡◌, ◌+◌, ◌*◌, ◌≤◌, length};
 ghost use Rattle.endian.specs.Range.{answer};
 ghost use Rattle.endian.specs.Place.{size_of, dynamic};
@@ -9,13 +11,13 @@ ghost use Rattle.dynamic.specs.Layout.{dyn_at, val_of, ptr_of};
 use endian::{Class, Fault, Order};
 
 // `un` is the union of the ABI's d_val and d_ptr: the tag says which of the two it is.
-#[derive(Drop)]
+#[derive(Clone, Copy)]
 pub struct Dyn {
     pub tag: i64,
     pub un: u64,
 }
 
-#[derive(Drop)]
+#[derive(Clone, Copy)]
 pub enum GotDyn {
     Is(Dyn),
     Refused(Fault),

@@ -1,9 +1,11 @@
 // Opening a file: its class and order, and where its section and program headers stand.
 // Opening walks nothing and keeps nothing: each question opens the file again, so that no state of a caller is trusted.
 // Sections come before segments, and the first test that fails decides.
+#![tactic(auto)]
+
 ghost use Rattle.std.specs.Prelude.{◌≡◌, ◌+◌, ◌*◌, ◌≤◌, length};
 ghost use Rattle.endian.specs.Range.{answer};
-ghost use Rattle.endian.specs.Place.{size_of, file-header, section-header};
+ghost use Rattle.endian.specs.Place.{size_of, file_header, section_header};
 ghost use Rattle.section.specs.Layout.{section_at};
 ghost use Rattle.file.specs.Layout.{header_at};
 ghost use Rattle.elf_bytes.specs.Open.{zero_fault, section_count, segment_count, table_fault, table_in, sections_in, segments_in, open_with, open_of};
@@ -13,26 +15,26 @@ use file::Ident;
 use parse::Range;
 
 // A table of the file, or none.
-#[derive(Drop)]
+#[derive(Clone, Copy)]
 pub enum Table {
     Absent,
     At(Range),
 }
 
-#[derive(Drop)]
+#[derive(Clone, Copy)]
 pub enum GotTable {
     Is(Table),
     Refused(Fault),
 }
 
-#[derive(Drop)]
+#[derive(Clone, Copy)]
 enum GotCount {
     Is(usize),
     Refused(Fault),
 }
 
 // What the questions ask of an opened file.
-#[derive(Drop)]
+#[derive(Clone, Copy)]
 pub struct Elf {
     pub class: Class,
     pub order: Order,
@@ -43,7 +45,7 @@ pub struct Elf {
     pub segments: Table,
 }
 
-#[derive(Drop)]
+#[derive(Clone, Copy)]
 pub enum Opened {
     Is(Elf),
     Refused(Fault),
@@ -158,7 +160,7 @@ fn segments_in(
 }
 
 fn open_in(class: Class, order: Order, d: &[u8]) -> Opened
-    requires { size_of file-header class ≤ length d.now }
+    requires { size_of file_header class ≤ length d.now }
     ensures { result ≡ open_with d.now (header_at class order d.now) }
 {
     let h = file::outline_in(class, order, d);

@@ -1,60 +1,62 @@
 // Numbers of 1 to 8 bytes at an offset of a byte slice, lowest byte first or highest byte first: read and written.
 // The types that every other crate shares stand here too: the order, the class, and the fault that a refusal carries.
 // The `.._in` readers are for callers that have tested the range of a whole entry; the `.._at` readers test it themselves.
+#![tactic(auto)]
+
 ghost use Rattle.std.specs.Prelude.{◌≡◌, ◌+◌, ◌*◌, ◌≤◌, length, get_or};
 ghost use Rattle.std.proofs.lemmas.List.Edits.{sets};
 ghost use Rattle.endian.specs.Number.{number_at, bytes_of, swapped, ordered, signed};
 ghost use Rattle.endian.specs.Range.{fault_at, answer};
 
-#[derive(Drop)]
+#[derive(Clone, Copy)]
 pub enum Order {
     Little,
     Big,
 }
 
-#[derive(Drop)]
+#[derive(Clone, Copy)]
 pub enum Class {
     Elf32,
     Elf64,
 }
 
 // What a refusal says: document 01's number, and 0 where nothing is wrong. Readers pass it on whole.
-#[derive(Drop)]
+#[derive(Clone, Copy)]
 pub struct Fault {
     pub number: u8,
 }
 
-#[derive(Drop)]
+#[derive(Clone, Copy)]
 pub enum Got8 {
     Value(u8),
     Refused(Fault),
 }
 
-#[derive(Drop)]
+#[derive(Clone, Copy)]
 pub enum Got16 {
     Value(u16),
     Refused(Fault),
 }
 
-#[derive(Drop)]
+#[derive(Clone, Copy)]
 pub enum Got32 {
     Value(u32),
     Refused(Fault),
 }
 
-#[derive(Drop)]
+#[derive(Clone, Copy)]
 pub enum Got64 {
     Value(u64),
     Refused(Fault),
 }
 
-#[derive(Drop)]
+#[derive(Clone, Copy)]
 pub enum GotI32 {
     Value(i32),
     Refused(Fault),
 }
 
-#[derive(Drop)]
+#[derive(Clone, Copy)]
 pub enum GotI64 {
     Value(i64),
     Refused(Fault),

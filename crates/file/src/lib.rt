@@ -1,19 +1,21 @@
 // The identification and the header of an ELF file, in both classes and both orders.
 // The first test that fails decides the answer; `header_in` is for a caller that has tested the length.
+#![tactic(auto)]
+
 ghost use Rattle.std.specs.Prelude.{◌≡◌, ◌+◌, ◌≤◌, length, get_or};
-ghost use Rattle.endian.specs.Place.{size_of, file-header};
+ghost use Rattle.endian.specs.Place.{size_of, file_header};
 ghost use Rattle.file.specs.Layout.{header_at, outline_of};
 ghost use Rattle.file.specs.Open.{ident_of, header_of, order_of};
 
 use endian::{Class, Fault, Order};
 
-#[derive(Drop)]
+#[derive(Clone, Copy)]
 pub enum Ident {
     Is(Class, Order),
     Refused(Fault),
 }
 
-#[derive(Drop)]
+#[derive(Clone, Copy)]
 pub struct FileHeader {
     pub class: Class,
     pub order: Order,
@@ -35,7 +37,7 @@ pub struct FileHeader {
 }
 
 // What opening asks of a header: the file's type and entry point, its two tables, and which section holds the names.
-#[derive(Drop)]
+#[derive(Clone, Copy)]
 pub struct Outline {
     pub kind: u16,
     pub entry: u64,
@@ -48,7 +50,7 @@ pub struct Outline {
     pub shstrndx: u16,
 }
 
-#[derive(Drop)]
+#[derive(Clone, Copy)]
 pub enum GotHeader {
     Is(FileHeader),
     Refused(Fault),
@@ -68,7 +70,7 @@ pub fn order_of(class: Class, b: u8) -> Ident
 }
 
 pub fn size_of(class: Class) -> usize
-    ensures { result ≡ size_of file-header class }
+    ensures { result ≡ size_of file_header class }
 {
     match class {
         Class::Elf32 => 52,
@@ -191,7 +193,7 @@ pub fn identify(d: &[u8]) -> Ident
 
 // The outline and the header in a class and an order, which are told apart here, once for all fields.
 pub fn outline_in(class: Class, order: Order, d: &[u8]) -> Outline
-    requires { size_of file-header class ≤ length d.now }
+    requires { size_of file_header class ≤ length d.now }
     ensures { result ≡ outline_of (header_at class order d.now) }
 {
     match class {
@@ -207,7 +209,7 @@ pub fn outline_in(class: Class, order: Order, d: &[u8]) -> Outline
 }
 
 pub fn header_in(class: Class, order: Order, d: &[u8]) -> FileHeader
-    requires { size_of file-header class ≤ length d.now }
+    requires { size_of file_header class ≤ length d.now }
     ensures { result ≡ header_at class order d.now }
 {
     match class {

@@ -3,6 +3,8 @@
 // entry, and reads the symbol's name field only. Where the string table's last zero byte stands is found once, so no turn searches
 // for the end of a string, and so is whether the name holds a zero byte, so no turn looks for one. That a string is not the name is
 // noted if the name is long, so a chain that returns to itself compares no more than one that does not.
+#![tactic(auto)]
+
 ghost use Rattle.std.specs.Prelude.{◌≡◌, ◌+◌, ◌*◌, ◌<◌, ◌≤◌, true, length};
 ghost use Rattle.endian.specs.Range.{answer, no_fault};
 ghost use Rattle.endian.specs.Place.{size_of, symbol};
@@ -18,20 +20,20 @@ use parse::Found;
 use string_table::Compared;
 
 // The two counts at the start of a table.
-#[derive(Drop)]
+#[derive(Clone, Copy)]
 pub struct Head {
     pub buckets: u32,
     pub chains: u32,
 }
 
-#[derive(Drop)]
+#[derive(Clone, Copy)]
 pub enum GotHead {
     Is(Head),
     Refused(Fault),
 }
 
 // What a lookup answers: the number of a symbol with the name, that there is none, or what could not be read.
-#[derive(Drop)]
+#[derive(Clone, Copy)]
 pub enum Lookup {
     At(usize),
     Nothing,
@@ -39,14 +41,14 @@ pub enum Lookup {
 }
 
 // Where a name stands, or what could not be read.
-#[derive(Drop)]
+#[derive(Clone, Copy)]
 enum GotPlace {
     Is(usize),
     Refused(Fault),
 }
 
 // What a turn of a lookup answers: the next index, that the symbol has the name, or what could not be read.
-#[derive(Drop)]
+#[derive(Clone, Copy)]
 enum Turn {
     Next(usize),
     Same,
@@ -117,8 +119,8 @@ fn symbol_fault(class: Class, len: usize, whole: usize, i: usize) -> Fault
 
 // The index behind i in its chain.
 fn next(order: Order, h: &[u8], d: Head, i: usize) -> Turn
-    requires fact_1 { hash_fault order h.now ≡ no_fault }
-    requires fact_2 { d ≡ head_of order h.now }
+    requires fine { hash_fault order h.now ≡ no_fault }
+    requires head { d ≡ head_of order h.now }
     ensures { result ≡ next_of order h.now i }
 {
     let b = d.buckets as usize;
@@ -229,10 +231,10 @@ fn noted_turn(
     marks: &mut [u8],
     i: usize,
 ) -> Turn
-    requires fact_1 { Ready class order h.now d syms.now (symbol_count class syms.now) strs.now (Found.At last) name.now true }
-    requires fact_2 { Notes strs.now name.now marks.old }
-    ensures fact_1 { result ≡ turn_of class order h.now syms.now strs.now name.now i }
-    ensures fact_2 { Notes strs.now name.now marks.new }
+    requires ready { Ready class order h.now d syms.now (symbol_count class syms.now) strs.now (Found.At last) name.now true }
+    requires noted_before { Notes strs.now name.now marks.old }
+    ensures answer { result ≡ turn_of class order h.now syms.now strs.now name.now i }
+    ensures noted_after { Notes strs.now name.now marks.new }
 {
     let whole = symbol_count(class, syms.len());
     let p = name_at(class, order, syms, whole, i);

@@ -16,7 +16,7 @@ use segment::ProgramHeader;
 const MAX_FILE: usize = 1073741824;
 
 // What the plan asks of an opened file: its type and entry point, and where its program headers stand.
-#[derive(Drop)]
+#[derive(Clone, Copy)]
 pub struct Job {
     pub class: Class,
     pub order: Order,
@@ -26,20 +26,20 @@ pub struct Job {
     pub count: usize,
 }
 
-#[derive(Drop)]
+#[derive(Clone, Copy)]
 pub enum Begun {
     Is(Job),
     Refused(Fault),
 }
 
 // A refusal: its number, and with 20 what the reader says.
-#[derive(Drop)]
+#[derive(Clone, Copy)]
 pub struct Refusal {
     pub number: u8,
     pub reader: Fault,
 }
 
-#[derive(Drop)]
+#[derive(Clone, Copy)]
 pub enum Answer {
     Planned(usize),
     Refused(Refusal),

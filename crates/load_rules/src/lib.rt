@@ -11,7 +11,7 @@ use segment::ProgramHeader;
 const MAX_WINDOW: u64 = 4294967296;
 
 // Where a file may be loaded: start and length, in bytes.
-#[derive(Drop)]
+#[derive(Clone, Copy)]
 pub struct Window {
     pub start: u64,
     pub len: u64,

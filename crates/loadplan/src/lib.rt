@@ -20,7 +20,7 @@ use walks::Kind;
 
 // A plan's answer.
 #[repr(C)]
-#[derive(Drop)]
+#[derive(Clone, Copy)]
 pub struct Planned {
     pub refusal: u32,
     pub reader: u32,

@@ -15,13 +15,13 @@ use parse::{Found, GotRange};
 use section::GotSectionHeader;
 use segment::GotProgramHeader;
 
-#[derive(Drop)]
+#[derive(Clone, Copy)]
 pub enum GotFound {
     Is(Found),
     Refused(Fault),
 }
 
-#[derive(Drop)]
+#[derive(Clone, Copy)]
 enum GotIndex {
     Is(usize),
     Refused(Fault),
@@ -116,12 +116,12 @@ pub fn name_table(d: &[u8]) -> GotTable
 
 // Whether the string at o is the name, which is UTF-8 and holds no zero byte: an offset behind the last zero byte has no string.
 fn is_named(strs: &[u8], last: usize, o: usize, name: &[u8], marks: &mut [u8]) -> bool
-    requires fact_1 { last_zero strs.now ≡ Found.At last }
-    requires fact_2 { well_formed name.now ≡ true }
-    requires fact_3 { is_clean name.now ≡ true }
-    requires fact_4 { Notes strs.now name.now marks.old }
-    ensures fact_1 { result ≡ text_named strs.now o name.now }
-    ensures fact_2 { Notes strs.now name.now marks.new }
+    requires last_known { last_zero strs.now ≡ Found.At last }
+    requires utf8 { well_formed name.now ≡ true }
+    requires clean { is_clean name.now ≡ true }
+    requires noted_before { Notes strs.now name.now marks.old }
+    ensures answer { result ≡ text_named strs.now o name.now }
+    ensures noted_after { Notes strs.now name.now marks.new }
 {
     if last < o {
         return false;
@@ -134,10 +134,10 @@ fn is_named(strs: &[u8], last: usize, o: usize, name: &[u8], marks: &mut [u8]) -
 
 // The first section whose name, at the offset that stands first in its header, is the name.
 fn search(order: Order, t: &[u8], size: usize, strs: &[u8], last: usize, name: &[u8]) -> Found
-    requires fact_1 { 4 ≤ size }
-    requires fact_2 { last_zero strs.now ≡ Found.At last }
-    requires fact_3 { well_formed name.now ≡ true }
-    requires fact_4 { is_clean name.now ≡ true }
+    requires wide { 4 ≤ size }
+    requires last_known { last_zero strs.now ≡ Found.At last }
+    requires utf8 { well_formed name.now ≡ true }
+    requires clean { is_clean name.now ≡ true }
     ensures { result ≡ first_named order t.now size strs.now name.now }
 {
     let mut marks = [0u8; 1024];

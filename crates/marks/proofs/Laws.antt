@@ -30,8 +30,8 @@ unfolding marking
 marking_length m i = length-set m (i / 8) _
 
 -- bit l of b or of bit k
-bit_or : (b k l : ℕ) → bit_or b (2 ^ k) / 2 ^ l % 2 ≡ bit_or (b / 2 ^ l % 2) (2 ^ k / 2 ^ l % 2)
-bit_or b k l = rw (or_shr b (2 ^ k) l) (or_mod (b / 2 ^ l) (2 ^ k / 2 ^ l) 1)
+bit_or_power : (b k l : ℕ) → bit_or b (2 ^ k) / 2 ^ l % 2 ≡ bit_or (b / 2 ^ l % 2) (2 ^ k / 2 ^ l % 2)
+bit_or_power b k l = rw (or_shr b (2 ^ k) l) (or_mod (b / 2 ^ l) (2 ^ k / 2 ^ l) 1)
 
 -- a power of two has no bit but its own
 other_bit : (k l : ℕ) → (k ≡ l → ⊥) → 2 ^ k / 2 ^ l % 2 ≡ 0
@@ -68,7 +68,7 @@ marking_told m i j h e n = pick (eqb (j / 8) (i / 8)) refl
     pick true q =
         let d : j / 8 ≡ i / 8 = eqb-true _ _ q in
         let k : i % 8 ≡ j % 8 → ⊥ = λ r. n (omega arith) in
-        let b : v / 2 ^ (j % 8) % 2 ≡ get_or m (i / 8) 0 / 2 ^ (j % 8) % 2 = rw (bit_or (get_or m (i / 8) 0) (i % 8) (j % 8), other_bit (i % 8) (j % 8) k) (or_zero_r _) in
+        let b : v / 2 ^ (j % 8) % 2 ≡ get_or m (i / 8) 0 / 2 ^ (j % 8) % 2 = rw (bit_or_power (get_or m (i / 8) 0) (i % 8) (j % 8), other_bit (i % 8) (j % 8) k) (or_zero_r _) in
         rw d (rw (d, get_or-set_same m (i / 8) v 0 (omega arith), b) at e)
     pick false q = rw (get_or-set_other m (i / 8) (j / 8) v 0 (eqb-false _ _ q)) at e
 
@@ -84,11 +84,11 @@ marking_keeps m i j h e = pick (eqb (j / 8) (i / 8)) refl
     pick true q =
         let d : j / 8 ≡ i / 8 = eqb-true _ _ q in
         let o : get_or m (i / 8) 0 / 2 ^ (j % 8) % 2 ≡ 1 = eqb-true _ _ (rw d at e) in
-        rw (d, get_or-set_same m (i / 8) v 0 (omega arith), bit_or (get_or m (i / 8) 0) (i % 8) (j % 8), o) (one_or (2 ^ (i % 8) / 2 ^ (j % 8) % 2) (mod-lt _ (omega arith)))
+        rw (d, get_or-set_same m (i / 8) v 0 (omega arith), bit_or_power (get_or m (i / 8) 0) (i % 8) (j % 8), o) (one_or (2 ^ (i % 8) / 2 ^ (j % 8) % 2) (mod-lt _ (omega arith)))
     pick false q = rw (get_or-set_other m (i / 8) (j / 8) v 0 (eqb-false _ _ q)) e
 
 pub marking_marks : (m : List ℕ) (i : ℕ) → i < 8 * length m → marked (marking m i) i ≡ true
 unfolding marked marking
 marking_marks m i h =
-    rw (get_or-set_same m (i / 8) (bit_or (get_or m (i / 8) 0) (2 ^ (i % 8))) 0 (omega arith), bit_or (get_or m (i / 8) 0) (i % 8) (i % 8), own_bit (i % 8), or_comm (get_or m (i / 8) 0 / 2 ^ (i % 8) % 2) 1)
+    rw (get_or-set_same m (i / 8) (bit_or (get_or m (i / 8) 0) (2 ^ (i % 8))) 0 (omega arith), bit_or_power (get_or m (i / 8) 0) (i % 8) (i % 8), own_bit (i % 8), or_comm (get_or m (i / 8) 0 / 2 ^ (i % 8) % 2) 1)
     (one_or (get_or m (i / 8) 0 / 2 ^ (i % 8) % 2) (mod-lt _ (omega arith)))

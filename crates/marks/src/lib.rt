@@ -1,4 +1,6 @@
 // Marks on the numbers from 0 up, eight to a byte: whether a number is marked, and marking it.
+#![tactic(auto)]
+
 ghost use Rattle.std.specs.Prelude.{◌≡◌, ◌*◌, ◌<◌, length};
 ghost use Rattle.marks.specs.Marks.{marked, marking};
 

@@ -1,5 +1,7 @@
 // A run of bytes in memory: whether it fits, filled with zeros, filled from another run.
 // The loops are the plainest there are, so that a compiler makes them calls of memset and memcpy.
+#![tactic(auto)]
+
 ghost use Rattle.std.specs.Prelude.{◌≡◌, ◌+◌, ◌-◌, length, replicate, leb};
 
 // Whether n bytes from a on end at or before len, with no sum that wraps.

@@ -1,5 +1,7 @@
 // Tables and ranges: entry i of a table, how many entries it has, the first of a kind, a range of the data.
 // A table is a part of the data with entries of one size; what stands behind the last whole entry is ignored.
+#![tactic(auto)]
+
 ghost use Rattle.std.specs.Prelude.{◌≡◌, ◌+◌, ◌*◌, ◌^◌, ◌≤◌, leb, length};
 ghost use Rattle.parse.specs.Entry.{entry_fault, count_of, range_at};
 ghost use Rattle.parse.specs.First.{first_kind};
@@ -7,20 +9,20 @@ ghost use Rattle.parse.specs.First.{first_kind};
 use endian::{Fault, Order};
 
 // What a search finds.
-#[derive(Drop)]
+#[derive(Clone, Copy)]
 pub enum Found {
     At(usize),
     Nothing,
 }
 
 // A part of the data, from the first byte up to, not including, the last.
-#[derive(Drop)]
+#[derive(Clone, Copy)]
 pub struct Range {
     pub from: usize,
     pub to: usize,
 }
 
-#[derive(Drop)]
+#[derive(Clone, Copy)]
 pub enum GotRange {
     Is(Range),
     Refused(Fault),

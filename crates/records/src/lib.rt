@@ -1,5 +1,7 @@
 // The records of a load plan in a lent table: 48 bytes each, six numbers of 8 bytes, lowest byte first.
 // A record holds absolute addresses; it says nothing of the file's class and order.
+#![tactic(auto)]
+
 ghost use Rattle.std.specs.Prelude.{◌≡◌, ◌+◌, ◌*◌, ◌≤◌, length};
 ghost use Rattle.std.proofs.lemmas.List.Edits.{sets};
 ghost use Rattle.memory.specs.Run.{put};
@@ -7,7 +9,7 @@ ghost use Rattle.records.specs.Record.{record_at, record_bytes, three_bytes};
 
 use endian::Order;
 
-#[derive(Drop)]
+#[derive(Clone, Copy)]
 pub struct Record {
     // start and length of the pages
     pub page: u64,

@@ -1,6 +1,8 @@
 // Relocations with and without addend: the entry at an offset, and entry i of a table, in both classes and both orders.
 // The info field is taken apart as each class has it; the addend is signed, as wide as in 64-bit entries.
 // `rel_in` and `rela_in` are for a caller that has tested the range of the whole entry.
+#![tactic(auto)]
+
 ghost use Rattle.std.specs.Prelude.{◌≡◌, ◌+◌, ◌*◌, ◌≤◌, length};
 ghost use Rattle.endian.specs.Range.{answer};
 ghost use Rattle.endian.specs.Place.{size_of, rel, rela};
@@ -9,14 +11,14 @@ ghost use Rattle.relocation.specs.Layout.{rel_at, rela_at};
 
 use endian::{Class, Fault, Order};
 
-#[derive(Drop)]
+#[derive(Clone, Copy)]
 pub struct Rel {
     pub offset: u64,
     pub sym: u32,
     pub kind: u32,
 }
 
-#[derive(Drop)]
+#[derive(Clone, Copy)]
 pub struct Rela {
     pub offset: u64,
     pub sym: u32,
@@ -24,13 +26,13 @@ pub struct Rela {
     pub addend: i64,
 }
 
-#[derive(Drop)]
+#[derive(Clone, Copy)]
 pub enum GotRel {
     Is(Rel),
     Refused(Fault),
 }
 
-#[derive(Drop)]
+#[derive(Clone, Copy)]
 pub enum GotRela {
     Is(Rela),
     Refused(Fault),

@@ -1,14 +1,16 @@
 // Section headers: the entry at an offset, and entry i of a table, in both classes and both orders.
 // `section_in` is for a caller that has tested the range of the whole entry.
+#![tactic(auto)]
+
 ghost use Rattle.std.specs.Prelude.{◌≡◌, ◌+◌, ◌*◌, ◌≤◌, length};
 ghost use Rattle.endian.specs.Range.{answer};
-ghost use Rattle.endian.specs.Place.{size_of, section-header};
+ghost use Rattle.endian.specs.Place.{size_of, section_header};
 ghost use Rattle.parse.specs.Entry.{entry_fault};
 ghost use Rattle.section.specs.Layout.{section_at, extent_of};
 
 use endian::{Class, Fault, Order};
 
-#[derive(Drop)]
+#[derive(Clone, Copy)]
 pub struct SectionHeader {
     pub name: u32,
     pub kind: u32,
@@ -23,7 +25,7 @@ pub struct SectionHeader {
 }
 
 // Where a section's bytes stand, and what they are entries of: what a walk over sections asks of most of them.
-#[derive(Drop)]
+#[derive(Clone, Copy)]
 pub struct Extent {
     pub offset: u64,
     pub size: u64,
@@ -31,14 +33,14 @@ pub struct Extent {
     pub entsize: u64,
 }
 
-#[derive(Drop)]
+#[derive(Clone, Copy)]
 pub enum GotSectionHeader {
     Is(SectionHeader),
     Refused(Fault),
 }
 
 pub fn size_of(class: Class) -> usize
-    ensures { result ≡ size_of section-header class }
+    ensures { result ≡ size_of section_header class }
 {
     match class {
         Class::Elf32 => 40,
@@ -110,7 +112,7 @@ fn section64(order: Order, t: &[u8], o: usize) -> SectionHeader
 
 // The entry at an offset, where it is whole. Class and order are told apart here, once for all fields.
 pub fn section_in(class: Class, order: Order, t: &[u8], o: usize) -> SectionHeader
-    requires { o + size_of section-header class ≤ length t.now }
+    requires { o + size_of section_header class ≤ length t.now }
     ensures { result ≡ section_at class order t.now o }
 {
     match class {
@@ -127,7 +129,7 @@ pub fn section_in(class: Class, order: Order, t: &[u8], o: usize) -> SectionHead
 
 // The extent of that entry, likewise.
 pub fn extent_in(class: Class, order: Order, t: &[u8], o: usize) -> Extent
-    requires { o + size_of section-header class ≤ length t.now }
+    requires { o + size_of section_header class ≤ length t.now }
     ensures { result ≡ extent_of (section_at class order t.now o) }
 {
     match class {
@@ -144,7 +146,7 @@ pub fn extent_in(class: Class, order: Order, t: &[u8], o: usize) -> Extent
 
 // The fault of entry i. The class is told apart first, so that the quotient in the test is of two constants.
 pub fn fault_in(class: Class, len: usize, i: usize) -> Fault
-    ensures { result ≡ entry_fault (size_of section-header class) len i }
+    ensures { result ≡ entry_fault (size_of section_header class) len i }
 {
     match class {
         Class::Elf32 => parse::entry_fault(40, len, i),
@@ -154,8 +156,8 @@ pub fn fault_in(class: Class, len: usize, i: usize) -> Fault
 
 // Entry i of a table.
 pub fn entry(class: Class, order: Order, t: &[u8], i: usize) -> GotSectionHeader
-    ensures { result ≡ answer (entry_fault (size_of section-header class) (length t.now) i)
-        (GotSectionHeader.Is (section_at class order t.now (i * size_of section-header class))) GotSectionHeader.Refused }
+    ensures { result ≡ answer (entry_fault (size_of section_header class) (length t.now) i)
+        (GotSectionHeader.Is (section_at class order t.now (i * size_of section_header class))) GotSectionHeader.Refused }
 {
     let size = size_of(class);
     let f = fault_in(class, t.len(), i);

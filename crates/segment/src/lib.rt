@@ -1,14 +1,16 @@
 // Program headers: the entry at an offset, and entry i of a table, in both classes and both orders.
 // `segment_in` is for a caller that has tested the range of the whole entry.
+#![tactic(auto)]
+
 ghost use Rattle.std.specs.Prelude.{◌≡◌, ◌+◌, ◌*◌, ◌≤◌, length};
 ghost use Rattle.endian.specs.Range.{answer};
-ghost use Rattle.endian.specs.Place.{size_of, program-header};
+ghost use Rattle.endian.specs.Place.{size_of, program_header};
 ghost use Rattle.parse.specs.Entry.{entry_fault};
 ghost use Rattle.segment.specs.Layout.{segment_at};
 
 use endian::{Class, Fault, Order};
 
-#[derive(Drop)]
+#[derive(Clone, Copy)]
 pub struct ProgramHeader {
     pub kind: u32,
     pub offset: u64,
@@ -20,14 +22,14 @@ pub struct ProgramHeader {
     pub align: u64,
 }
 
-#[derive(Drop)]
+#[derive(Clone, Copy)]
 pub enum GotProgramHeader {
     Is(ProgramHeader),
     Refused(Fault),
 }
 
 pub fn size_of(class: Class) -> usize
-    ensures { result ≡ size_of program-header class }
+    ensures { result ≡ size_of program_header class }
 {
     match class {
         Class::Elf32 => 32,
@@ -69,7 +71,7 @@ fn segment64(order: Order, t: &[u8], o: usize) -> ProgramHeader
 
 // The entry at an offset, where it is whole. Class and order are told apart here, once for all fields.
 pub fn segment_in(class: Class, order: Order, t: &[u8], o: usize) -> ProgramHeader
-    requires { o + size_of program-header class ≤ length t.now }
+    requires { o + size_of program_header class ≤ length t.now }
     ensures { result ≡ segment_at class order t.now o }
 {
     match class {
@@ -86,7 +88,7 @@ pub fn segment_in(class: Class, order: Order, t: &[u8], o: usize) -> ProgramHead
 
 // The class is told apart first, so that the quotient in the test is of two constants.
 fn fault_in(class: Class, len: usize, i: usize) -> Fault
-    ensures { result ≡ entry_fault (size_of program-header class) len i }
+    ensures { result ≡ entry_fault (size_of program_header class) len i }
 {
     match class {
         Class::Elf32 => parse::entry_fault(32, len, i),
@@ -96,8 +98,8 @@ fn fault_in(class: Class, len: usize, i: usize) -> Fault
 
 // Entry i of a table.
 pub fn entry(class: Class, order: Order, t: &[u8], i: usize) -> GotProgramHeader
-    ensures { result ≡ answer (entry_fault (size_of program-header class) (length t.now) i)
-        (GotProgramHeader.Is (segment_at class order t.now (i * size_of program-header class))) GotProgramHeader.Refused }
+    ensures { result ≡ answer (entry_fault (size_of program_header class) (length t.now) i)
+        (GotProgramHeader.Is (segment_at class order t.now (i * size_of program_header class))) GotProgramHeader.Refused }
 {
     let size = size_of(class);
     let f = fault_in(class, t.len(), i);

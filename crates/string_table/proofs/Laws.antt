@@ -5,7 +5,7 @@ use native.Mathlib.Nat.{lt_of_not-le}
 use native.Mathlib.Numerals.{add-one}
 use native.Mathlib.Omega.{arith}
 use mathlib.Core.Path.{◌≡◌, refl, sym, ap, ◌∙◌}
-use mathlib.Core.Bool.{Bool, true, false, cond, ◌&&◌, not, and_assoc, and_true}
+use mathlib.Core.Bool.{Bool, true, false, cond, ◌&&◌, not, and_assoc, and-true}
 use mathlib.Core.List.{List, [], ◌∷◌}
 use lib.ListN.{length, get_or, take, drop, length-take, length-drop, drop_of_length-le}
 use lib.Seq.{get_or-take, get_or-drop, drop-cons}
@@ -113,7 +113,7 @@ clean_turn s x i h = rw (drop-cons s i 0 h, add-one i) (and_assoc x _ _)
 
 pub clean_over : (s : List ℕ) (x : Bool) (i : ℕ) → length s ≤ i → x ≡ (x && is_clean (drop i s))
 unfolding is_clean
-clean_over s x i h = rw (drop_of_length-le s h) (sym (and_true x))
+clean_over s x i h = rw (drop_of_length-le s h) (sym (and-true x))
 
 -- no byte of a clean list is zero, and a list is clean where none is
 pub clean_byte : (s : List ℕ) → is_clean s ≡ true → (j : ℕ) → j < length s → get_or s j 0 ≡ 0 → ⊥
@@ -203,9 +203,9 @@ module _ (s : List ℕ) (l o : ℕ) (name : List ℕ) (last : last_zero s ≡ At
   same_refused b n = same_other _ _ (λ e. n (agrees_same b e))
 
   -- where there is room, and the zero byte, the bytes decide
-  pub same_bytes : o ≤ l → is_clean name ≡ true → o + length name ≤ l → get_or s (o + length name) 0 ≡ 0 → same_run s o name ≡ same_bytes (text_at s o) name
+  pub same_bytes_lem : o ≤ l → is_clean name ≡ true → o + length name ≤ l → get_or s (o + length name) 0 ≡ 0 → same_run s o name ≡ same_bytes (text_at s o) name
   unfolding same_run
-  same_bytes b c r e = pick (same_run s o name) refl
+  same_bytes_lem b c r e = pick (same_run s o name) refl
     where
       pick : (x : Bool) → same_bytes (take (length name) (drop o s)) name ≡ x → x ≡ same_bytes (text_at s o) name
       pick true q = sym (same_agreed c (record { room = r; ends = e; bytes = same_known _ _ q }))

@@ -17,7 +17,7 @@ use Rattle.marks.proofs.Laws.{fresh, marking_length, marking_told, marking_keeps
 use Rattle.parse.specs.declared.Found.TheVariants.{At}
 use Rattle.string_table.specs.Text.{last_zero, text_at, same_bytes, same_run, is_clean}
 use Rattle.string_table.specs.Noted.{span_of, front_of, ending, Noted, noting}
-use Rattle.string_table.proofs.Laws.{Agrees, agrees_same, stands, same_bytes, same_refused, same_known, same_equal, clean_byte, all_clean, run_byte, last_inside}
+use Rattle.string_table.proofs.Laws.{Agrees, agrees_same, stands, same_bytes_lem, same_refused, same_known, same_equal, clean_byte, all_clean, run_byte, last_inside}
 use Rattle.string_table.proofs.Runs.{Matched, run_matched, run_other}
 
 clash : (b : Bool) → b ≡ true → b ≡ false → ⊥
@@ -146,7 +146,7 @@ module _ (t : List ℕ) (l : ℕ) (name : List ℕ) (span : ℕ) (last : last_ze
       let k = tail_length in
       let i = last_inside t l last in
       let w : o + front_of span name + length tail ≡ o + length name = omega arith in
-      pick (same_run t o front) refl ∙ same_bytes t l o name last (omega arith) clean h (rw w at a.ends)
+      pick (same_run t o front) refl ∙ same_bytes_lem t l o name last (omega arith) clean h (rw w at a.ends)
     where
       front : List ℕ
       front = take (front_of span name) name
@@ -185,7 +185,7 @@ module _ (t : List ℕ) (l : ℕ) (name : List ℕ) (span : ℕ) (last : last_ze
       same_refused t l o name last (omega arith) (λ g.
       let w : o + length name ≡ o + front_of span name + length tail = omega arith in
       let m : same_run t (o + front_of span name) tail ≡ true = run_matched t (o + front_of span name) tail (omega arith) (λ j p q. byte g.bytes j (omega arith)) in
-      clash _ m (same_bytes t l (o + front_of span name) tail last (omega arith) tail_clean (omega arith) (rw w at g.ends) ∙ e))
+      clash _ m (same_bytes_lem t l (o + front_of span name) tail last (omega arith) tail_clean (omega arith) (rw w at g.ends) ∙ e))
     where
       byte : take (length name) (drop o t) ≡ name → (j : ℕ) → front_of span name + j < length name → get_or t (o + front_of span name + j) 0 ≡ get_or tail j 0
       byte b j q = rw (get_or-drop, add_assoc o (front_of span name) j) (run_byte t o name b (front_of span name + j) q)

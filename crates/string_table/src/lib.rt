@@ -2,6 +2,8 @@
 // Where many strings of one table are asked for, `last_zero` is asked once: then `fault_with` tells in one step whether a string
 // stands at an offset, and `same_at` compares it with a name without a search for its end, eight bytes at a time. Where one offset
 // may be asked about again and again, `same_noted` compares a name that is longer than a span in full only once with each string.
+#![tactic(auto)]
+
 ghost use Rattle.std.specs.Prelude.{◌≡◌, true, ◌+◌, ◌≤◌, length};
 ghost use Rattle.endian.specs.Range.{answer};
 ghost use Rattle.parse.specs.declared.Found.{Found};
@@ -131,8 +133,8 @@ fn same_bytes(t: &[u8], o: usize, name: &[u8]) -> bool
 // The same of a name of at least eight bytes, eight at a time. What is left at the front is compared as the first eight bytes,
 // some of which may have been compared before.
 fn same_words(t: &[u8], o: usize, name: &[u8]) -> bool
-    requires fact_1 { 8 ≤ length name.now }
-    requires fact_2 { o + length name.now ≤ length t.now }
+    requires eight { 8 ≤ length name.now }
+    requires room { o + length name.now ≤ length t.now }
     ensures { result ≡ same_run t.now o name.now }
 {
     let mut k = name.len();
@@ -162,9 +164,9 @@ fn same_run(t: &[u8], o: usize, name: &[u8]) -> bool
 // the place n bytes behind them, so all comparisons of one name with distinct offsets take together at most as many turns as the
 // table has bytes.
 pub fn same_at(t: &[u8], last: usize, o: usize, name: &[u8]) -> bool
-    requires fact_1 { last_zero t.now ≡ Found.At last }
-    requires fact_2 { o ≤ last }
-    requires fact_3 { is_clean name.now ≡ true }
+    requires last_known { last_zero t.now ≡ Found.At last }
+    requires before_last { o ≤ last }
+    requires clean { is_clean name.now ≡ true }
     ensures { result ≡ same_bytes (text_at t.now o) name.now }
 {
     let n = name.len();
@@ -196,12 +198,12 @@ fn span_of(len: usize) -> usize
 // such offset to a mark: the name holds no zero byte, so two of them are more than a span apart. So a comparison reads no more than
 // a span's bytes of the name, but for one at each offset that reads the rest of it.
 pub fn same_noted(t: &[u8], last: usize, o: usize, name: &[u8], marks: &mut [u8]) -> bool
-    requires fact_1 { last_zero t.now ≡ Found.At last }
-    requires fact_2 { o ≤ last }
-    requires fact_3 { is_clean name.now ≡ true }
-    requires fact_4 { Notes t.now name.now marks.old }
-    ensures fact_1 { result ≡ same_bytes (text_at t.now o) name.now }
-    ensures fact_2 { marks.new ≡ noted t.now name.now o marks.old }
+    requires last_known { last_zero t.now ≡ Found.At last }
+    requires before_last { o ≤ last }
+    requires clean { is_clean name.now ≡ true }
+    requires noted_before { Notes t.now name.now marks.old }
+    ensures answer { result ≡ same_bytes (text_at t.now o) name.now }
+    ensures noted_after { marks.new ≡ noted t.now name.now o marks.old }
 {
     let n = name.len();
     let span = span_of(t.len());
@@ -227,7 +229,7 @@ pub fn same_noted(t: &[u8], last: usize, o: usize, name: &[u8], marks: &mut [u8]
 }
 
 // What a comparison of a string with a name answers.
-#[derive(Drop)]
+#[derive(Clone, Copy)]
 pub enum Compared {
     Same,
     Other,
@@ -237,8 +239,8 @@ pub enum Compared {
 // The string at o compared with a name, in a table whose last zero byte is known. An offset where no string stands is refused.
 // Whether the name is clean is told, not looked for, as many strings are compared with one name.
 pub fn compare(t: &[u8], last: Found, o: usize, name: &[u8], clean: bool) -> Compared
-    requires fact_1 { last ≡ last_zero t.now }
-    requires fact_2 { clean ≡ is_clean name.now }
+    requires last_known { last ≡ last_zero t.now }
+    requires clean_known { clean ≡ is_clean name.now }
     ensures { result ≡ answer (text_fault t.now o)
         (compared (same_bytes (text_at t.now o) name.now)) Compared.Refused }
 {
@@ -262,7 +264,7 @@ pub fn compare(t: &[u8], last: Found, o: usize, name: &[u8], clean: bool) -> Com
 }
 
 // The bytes of a sequence that are still to come: how many, and from where to where the next one may be.
-#[derive(Drop)]
+#[derive(Clone, Copy)]
 struct Awaited {
     more: u8,
     low: u8,

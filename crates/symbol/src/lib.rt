@@ -1,5 +1,7 @@
 // Symbols: the entry at an offset, and entry i of a table, in both classes and both orders.
 // `symbol_in` is for a caller that has tested the range of the whole entry.
+#![tactic(auto)]
+
 ghost use Rattle.std.specs.Prelude.{◌≡◌, ◌+◌, ◌*◌, ◌≤◌, length};
 ghost use Rattle.endian.specs.Range.{answer};
 ghost use Rattle.endian.specs.Place.{size_of, symbol};
@@ -9,7 +11,7 @@ ghost use Rattle.symbol.specs.Small.{is_undefined, bind_of, type_of, visibility_
 
 use endian::{Class, Fault, Order};
 
-#[derive(Drop)]
+#[derive(Clone, Copy)]
 pub struct Symbol {
     pub name: u32,
     pub shndx: u16,
@@ -19,7 +21,7 @@ pub struct Symbol {
     pub size: u64,
 }
 
-#[derive(Drop)]
+#[derive(Clone, Copy)]
 pub enum GotSymbol {
     Is(Symbol),
     Refused(Fault),

@@ -8,7 +8,7 @@ ghost use Rattle.walks.specs.Walk.{size_in, width_of, row_in, row_at, batch_of, 
 use endian::{Class, Order};
 
 // The kinds of entries that a walk visits.
-#[derive(Drop)]
+#[derive(Clone, Copy)]
 pub enum Kind {
     Section,
     Segment,
@@ -121,8 +121,8 @@ fn put10(out: &mut [u64], at: usize, row: [u64; 10])
 
 // The values of the entry at o from `at` on.
 fn put_entry(kind: Kind, class: Class, order: Order, t: &[u8], o: usize, out: &mut [u64], at: usize)
-    requires fact_1 { o + size_in kind class ≤ length t.now }
-    requires fact_2 { at + width_of kind ≤ length out.old }
+    requires entry_room { o + size_in kind class ≤ length t.now }
+    requires row_room { at + width_of kind ≤ length out.old }
     ensures { out.new ≡ put at (row_in kind class order t.now o) out.old }
 {
     match kind {
@@ -162,8 +162,8 @@ fn put_entry(kind: Kind, class: Class, order: Order, t: &[u8], o: usize, out: &m
 
 // How many entries of a table of len bytes there are from number `from` on, and how many have room: the smaller number.
 fn batch(size: usize, len: usize, from: usize, width: usize, room: usize) -> usize
-    requires fact_1 { 0 < size }
-    requires fact_2 { 0 < width }
+    requires some_size { 0 < size }
+    requires some_width { 0 < width }
     ensures { result ≡ batch_of size len from width room }
 {
     let there = len / size;

@@ -1,9 +1,11 @@
 // File headers, section headers and program headers, written out in their class and order into a lent slice.
 // The answer is a fault: 0 done, 14 where the slice is too short, 12 where a number does not fit a 32-bit file; then nothing is written.
 // What is written reads back as itself: that stands in each contract.
+#![tactic(auto)]
+
 ghost use Rattle.std.specs.Prelude.{◌≡◌, ◌++◌, ◌+◌, ◌≤◌, length};
 ghost use Rattle.std.proofs.lemmas.List.Edits.{sets};
-ghost use Rattle.endian.specs.Place.{size_of, file-header, section-header, program-header};
+ghost use Rattle.endian.specs.Place.{size_of, file_header, section_header, program_header};
 ghost use Rattle.written.specs.Rows.{pair_rows, write_all, Fitting, fits, fault_if};
 ghost use Rattle.written.specs.Headers.{header_rows, first_rows, three_rows, last_rows, class_byte, order_byte, ident_bytes, header_bytes};
 ghost use Rattle.written.specs.Headers.{section_rows, segment_rows, WroteHeader, WroteSection, WroteSegment};
@@ -252,7 +254,7 @@ fn segment_fits(class: Class, h: ProgramHeader) -> bool
 }
 
 fn put_header(class: Class, h: FileHeader, d: &mut [u8])
-    requires { (size_of file-header class ≤ length d.old) × Fitting (header_rows class h) }
+    requires { (size_of file_header class ≤ length d.old) × Fitting (header_rows class h) }
     ensures { d.new ≡ header_bytes class h d.old }
 {
     match class {
@@ -262,7 +264,7 @@ fn put_header(class: Class, h: FileHeader, d: &mut [u8])
 }
 
 fn put_section(class: Class, order: Order, h: SectionHeader, d: &mut [u8])
-    requires { (size_of section-header class ≤ length d.old) × Fitting (section_rows class h) }
+    requires { (size_of section_header class ≤ length d.old) × Fitting (section_rows class h) }
     ensures { d.new ≡ write_all order (section_rows class h) d.old }
 {
     match class {
@@ -272,7 +274,7 @@ fn put_section(class: Class, order: Order, h: SectionHeader, d: &mut [u8])
 }
 
 fn put_segment(class: Class, order: Order, h: ProgramHeader, d: &mut [u8])
-    requires { (size_of program-header class ≤ length d.old) × Fitting (segment_rows class h) }
+    requires { (size_of program_header class ≤ length d.old) × Fitting (segment_rows class h) }
     ensures { d.new ≡ write_all order (segment_rows class h) d.old }
 {
     match class {

@@ -1,0 +1,18 @@
+-- `segment::segment32` meets its contract: each field is the number at its place.
+-- Assumes nothing.
+use Rattle.endian.specs.declared.Class.TheVariants.{Elf32}
+use Rattle.endian.proofs.Laws.{at_start}
+use Rattle.segment.proofs.Same.{segment_at_lem}
+use Rattle.segment.proofs.segment32.Goals as goal
+
+pub returns : goal.returns
+returns c =
+    segment_at_lem Elf32 _ _ _
+    (at_start _ 4 _ _ c.u32_in.ensures)
+    c.u32_in-2.ensures
+    c.u32_in-3.ensures
+    c.u32_in-4.ensures
+    c.u32_in-5.ensures
+    c.u32_in-6.ensures
+    c.u32_in-7.ensures
+    c.u32_in-8.ensures

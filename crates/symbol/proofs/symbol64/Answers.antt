@@ -1,0 +1,17 @@
+-- `symbol::symbol64` meets its contract: each field is the number at its place.
+-- Assumes nothing.
+use mathlib.Core.Path.{sym}
+use Rattle.endian.specs.declared.Class.TheVariants.{Elf64}
+use Rattle.endian.proofs.Laws.{at_start, number_one}
+use Rattle.symbol.proofs.Same.{symbol_at_lem}
+use Rattle.symbol.proofs.symbol64.Goals as goal
+
+pub returns : goal.returns
+returns c =
+    symbol_at_lem Elf64 _ _ _
+    (at_start _ 4 _ _ c.u32_in.ensures)
+    c.u16_in.ensures
+    (sym (number_one _ _ _))
+    (sym (number_one _ _ _))
+    c.u64_in.ensures
+    c.u64_in-2.ensures
