@@ -1,6 +1,8 @@
 // What a section or a segment holds: its header by number, its bytes, and its bytes as strings, relocations, symbols or dynamic entries.
 // A section's numbers (type, offset, size, ..) come from the caller, and nothing is believed of them.
 // The flag for compressed data is ignored. The `.._in` functions take an opened file, whose tables lie in it.
+#![tactic(auto)]
+
 ghost use Rattle.std.specs.Prelude.{◌≡◌, length};
 ghost use Rattle.parse.specs.Entry.{range_at};
 ghost use Rattle.elf_bytes.specs.Open.{Whole};

@@ -1,6 +1,8 @@
 // The load plan of a file: the number of the refusal, or the records of its segments in a lent table.
 // The file is opened once; then each test walks the program headers, so that the smallest number that applies decides,
 // and a file that is refused leaves the table as it was.
+#![tactic(auto)]
+
 ghost use Rattle.std.specs.Prelude.{◌≡◌, true, false, not, ◌||◌, ◌+◌, ◌*◌, ◌<◌, ◌≤◌, length, eqb, ltb};
 ghost use Rattle.elf_bytes.specs.Open.{Tabled};
 ghost use Rattle.load_rules.specs.Rules.{any_below, good_window};

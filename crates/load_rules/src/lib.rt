@@ -1,5 +1,7 @@
 // The rules of the load plan for one segment and one window: the tests 22, 23, 24, 26 and 27, where a segment's pages lie, its record.
 // Every test is one expression, and no sum wraps: addresses are compared as they stand, or as distances.
+#![tactic(auto)]
+
 ghost use Rattle.std.specs.Prelude.{◌≡◌, ◌||◌, ◌+◌, ◌-◌, ◌*◌, ◌^◌, ◌%◌, ◌≤◌, eqb};
 ghost use Rattle.load_rules.specs.Rules.{power2, unfit, skewed, real, outside, write_exec, holds_entry, low, good_window, down, up, record_of};
 ghost use Rattle.load_rules.specs.Facts.{Placed};
