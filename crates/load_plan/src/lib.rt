@@ -157,8 +157,8 @@ fn count(f: &[u8], j: Job) -> usize
 // Does a segment clash with one before it? In one pass: its pages start before the end of those before it.
 fn out_of_order(f: &[u8], j: Job, w: Window) -> bool
     requires held { Held f.now j }
-    requires w_value { good_window w ≡ true }
-    requires count_value { any_below (test_at f.now j w 24) j.count ≡ false }
+    requires window { good_window w ≡ true }
+    requires inside { any_below (test_at f.now j w 24) j.count ≡ false }
     ensures { result ≡ any_below (clash_at (seg_at f.now j)) j.count }
 {
     let n = j.count;

@@ -1,5 +1,7 @@
 // What is found in a whole file: the table of section names, a section by its name, the symbol tables, the dynamic entries.
 // Each public question opens the file itself. The `.._in` functions take an opened file, whose tables lie in it.
+#![tactic(auto)]
+
 ghost use Rattle.std.specs.Prelude.{◌≡◌, ◌≤◌, true};
 ghost use Rattle.parse.specs.declared.Found.{Found};
 ghost use Rattle.string_table.specs.Text.{last_zero, is_clean};

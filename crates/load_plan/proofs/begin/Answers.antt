@@ -14,7 +14,7 @@ returns-in-Refused c = rw (le-leb _ _ c.if-f-le-MAX_FILE.true, ← c.open-o.ensu
 
 pub returns-in-Is : goal.returns-in-Is
 unfolding begun_of
-returns-in-Is c = rw (le-leb _ _ c.if-f-le-MAX_FILE.true, ← c.open-o.ensures, c.in-Is.is) c.Job-of.ensures{-?-}
+returns-in-Is c = rw (le-leb _ _ c.if-f-le-MAX_FILE.true, ← c.open-o.ensures, c.in-Is.is) c.job_of.ensures
 
 pub returns-else-f-le-MAX_FILE : goal.returns-else-f-le-MAX_FILE
 unfolding begun_of

@@ -3,11 +3,11 @@ use Prim.Native.Nat.{ℕ, ◌+◌, ◌-◌}
 use native.Mathlib.Nat.{le_antisymm}
 use native.Mathlib.Omega.{arith}
 use mathlib.Core.Path.{refl, sym, ap, ◌∙◌}
-use mathlib.Core.Logic.{⊎_elim}
 use Rattle.load_plan.specs.Plan.{seg_at}
 use Rattle.load_plan.specs.Facts.{count_below}
 use Rattle.load_plan.proofs.Order.{count_real, count_skip}
 use Rattle.load_plan.proofs.count.Goals as goal
+use Rattle.load_plan.proofs.count.Goals.{then-is_real, else-is_real}
 
 pub loop-k-init : goal.loop-k-init
 unfolding count_below
@@ -33,10 +33,10 @@ loop-k-preserved c =
     let e = c.header_at.ensures in
     let r = c.is_real.ensures in
     let seg = seg_at a.f.now a.j in
-    ⊎_elim
-    (λ x. (omega arith, (x.1 ∙ ap (λ (n : ℕ). n + 1) l.invariant.1.0 ∙ count_real seg 0 l.k 0 s e (sym r ∙ x.0.taken), omega arith)))
-    (λ x. (omega arith, (x.1 ∙ l.invariant.1.0 ∙ count_skip seg 0 l.k 0 s e (sym r ∙ x.0.left), omega arith)))
-    c.if-is_real.branch
+    elim c.if-is_real.branch [
+      then-is_real w ↦ (omega arith, (w.c-is ∙ ap (λ (n : ℕ). n + 1) l.invariant.1.0 ∙ count_real seg 0 l.k 0 s e (sym r ∙ w.if-is_real.true), omega arith))
+    | else-is_real w ↦ (omega arith, (w.c-is ∙ l.invariant.1.0 ∙ count_skip seg 0 l.k 0 s e (sym r ∙ w.if-is_real.false), omega arith))
+    ]
 
 pub returns : goal.returns
 returns c = let l = c.loop-k in let a = c.args in l.invariant.1.0 ∙ ap (count_below (seg_at a.f.now a.j)) (le_antisymm l.invariant.0 c.loop-k-test.false)

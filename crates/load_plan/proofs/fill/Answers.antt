@@ -5,7 +5,6 @@ use native.Mathlib.Omega.{arith}
 use mathlib.Core.Path.{◌≡◌, refl, sym, ap, ap₂, ◌∙◌}
 use mathlib.Core.Bool.{true}
 use mathlib.Core.List.{List, ◌++◌}
-use mathlib.Core.Logic.{⊎_elim}
 use lib.ListN.{length, drop}
 use Rattle.records.specs.Record.{table_bytes}
 use Rattle.records.specs.declared.Record.{Record}
@@ -14,7 +13,8 @@ use Rattle.load_plan.specs.Plan.{seg_at, records_below, plan_in}
 use Rattle.load_plan.proofs.Order.{placed_at}
 use Rattle.load_plan.proofs.Table.{room, fill_real, fill_skip, plan_count}
 use Rattle.load_plan.proofs.fill.Goals as goal
-use Rattle.load_plan.proofs.fill.Goals.{Then-is_real}
+use Rattle.load_plan.proofs.fill.Goals.{then-is_real, else-is_real}
+use Rattle.load_plan.proofs.fill.Goals.{After-is_real}
 
 pub loop-k-init : goal.loop-k-init
 unfolding records_below table_bytes
@@ -24,31 +24,30 @@ pub header_at-s-requires : goal.header_at-s-requires
 header_at-s-requires c = (c.requires.held, c.loop-k-test.true)
 
 -- the segment at hand lies in the window, and its record has room
-placed-here : (c : Then-is_real) → Placed c.low_of-l.result c.args.w c.header_at-s.result
-placed-here c =
-    let start = c.before.before.before.before.before.before.before.before{-PLACE Start-} in
-    let a = start.args in
+placed_here : (c : After-is_real) → c.is_real.result ≡ true → Placed c.low_of-l.result c.args.w c.header_at-s.result
+placed_here c real =
+    let a = c.args in
     placed_at a.f.now a.j a.w c.low_of-l.result c.loop-k.k a.j.count c.header_at-s.result
-    c.low_of-l.ensures c.header_at-s.ensures (sym c.is_real.ensures ∙ c.if-is_real.true) start.requires.window start.requires.inside c.loop-k-test.true
-room-here : (c : Then-is_real) → c.loop-k.at + 48 ≤ length c.loop-k.table
-room-here c =
-    let start = c.before.before.before.before.before.before.before.before{-PLACE Start-} in
-    let a = start.args in
+    c.low_of-l.ensures c.header_at-s.ensures (sym c.is_real.ensures ∙ real) c.requires.window c.requires.inside c.loop-k-test.true
+
+room_here : (c : After-is_real) → c.is_real.result ≡ true → c.loop-k.at + 48 ≤ length c.loop-k.table
+room_here c real =
+    let a = c.args in
     let l = c.loop-k in
     room (seg_at a.f.now a.j) a.w.start c.low_of-l.result l.k a.j.count l.c l.at a.table.now l.table c.header_at-s.result
-    l.invariant.1 c.header_at-s.ensures (sym c.is_real.ensures ∙ c.if-is_real.true) c.loop-k-test.true (omega (arith, plan_count a.f.now a.w a.j, start.requires.room_enough))
+    l.invariant.1 c.header_at-s.ensures (sym c.is_real.ensures ∙ real) c.loop-k-test.true (omega (arith, plan_count a.f.now a.w a.j, c.requires.room_enough))
 
 pub record_of-requires : goal.record_of-requires
-record_of-requires c = placed-here (goal.at.record_of-requires c).Then-is_real
+record_of-requires c = placed_here (goal.at.record_of-requires c).After-is_real c.if-is_real.true
 
 pub put_record-requires : goal.put_record-requires
-put_record-requires c = room-here (goal.at.put_record-requires c).Then-is_real
+put_record-requires c = room_here (goal.at.put_record-requires c).After-is_real c.if-is_real.true
 
 pub overflow_add-at : goal.overflow_add-at
-overflow_add-at c = omega (arith, room-here (goal.at.overflow_add-at c).Then-is_real)
+overflow_add-at c = omega (arith, room_here (goal.at.overflow_add-at c).After-is_real c.if-is_real.true)
 
 pub overflow_add-c : goal.overflow_add-c
-overflow_add-c c = omega (arith, c.loop-k.invariant.1.reached, room-here (goal.at.overflow_add-c c).Then-is_real)
+overflow_add-c c = omega (arith, c.loop-k.invariant.1.reached, room_here (goal.at.overflow_add-c c).After-is_real c.if-is_real.true)
 
 pub overflow_add-k : goal.overflow_add-k
 overflow_add-k c = omega arith
@@ -58,21 +57,19 @@ loop-k-smaller c = omega arith
 
 pub loop-k-preserved : goal.loop-k-preserved
 loop-k-preserved c =
-    let at-loop = c.before.before.before.before{-PLACE At-loop-} in
-    let a = at-loop.before.before.before.before.args in
-    let l = at-loop.loop in
+    let a = c.args in
+    let l = c.loop-k in
     let e = c.header_at-s.ensures in
     let r = c.is_real.ensures in (
       omega arith,
-      ⊎_elim
-          (λ x. fill_real (seg_at a.f.now a.j) a.w.start at-loop.before.low_of.result l.k c.header_at-s.result e l.c l.at a.table.now l.table l.invariant.1 c.if-is_real.c c.if-is_real.at c.if-is_real.table
-          (sym r ∙ x.0.taken) x.2.result x.2.ensures (room-here (record { before = c.before{-PLACE After-is_real-}; if1 = x.0 })) x.7 x.8 (x.6 ∙ x.3.ensures))
-          (λ x. fill_skip (seg_at a.f.now a.j) a.w.start at-loop.before.low_of.result l.k c.header_at-s.result e l.c l.at a.table.now l.table l.invariant.1 c.if-is_real.c c.if-is_real.at c.if-is_real.table
-          (sym r ∙ x.0.left) x.2 x.3 x.1)
-          c.if-is_real.branch,
+      elim c.if-is_real.branch [
+        then-is_real w ↦ fill_real (seg_at a.f.now a.j) a.w.start c.low_of-l.result l.k c.header_at-s.result e l.c l.at a.table.now l.table l.invariant.1 c.if-is_real.c c.if-is_real.at c.if-is_real.table
+          (sym r ∙ w.if-is_real.true) w.record_of.result w.record_of.ensures (room_here (goal.at.loop-k-preserved c).After-is_real w.if-is_real.true) w.c-is w.at-is (w.table-is ∙ w.put_record.ensures)
+      | else-is_real w ↦ fill_skip (seg_at a.f.now a.j) a.w.start c.low_of-l.result l.k c.header_at-s.result e l.c l.at a.table.now l.table l.invariant.1 c.if-is_real.c c.if-is_real.at c.if-is_real.table
+          (sym r ∙ w.if-is_real.false) w.c-is w.at-is w.table-is
+      ],
     )
-same_length : tie.Need-same-length invariant-loop decreases-loop -- NOGOAL
-same_length c = c.before.loop.invariant.1.long
+
 
 pub returns : goal.returns
 unfolding plan_in

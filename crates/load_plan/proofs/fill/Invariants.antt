@@ -5,7 +5,7 @@ use Rattle.load_plan.proofs.Table.{Filling}
 use Rattle.load_plan.proofs.fill.Given as goal
 
 abbrev pub invariant-loop-k : goal.invariant-loop-k
-invariant-loop-k l = (l.k ≤ l.l.n) × Filling (seg_at l.l.f l.l.j) l.l.w.start l.l l.k l.c l.at l.l.initial.table l.table
+invariant-loop-k l = (l.k ≤ l.n) × Filling (seg_at l.f l.j) l.w.start l.l l.k l.c l.at l.initial.table l.table
 
 abbrev pub decreases-loop-k : goal.decreases-loop-k
-decreases-loop-k l = l.l.n - l.k
+decreases-loop-k l = l.n - l.k

@@ -8,7 +8,7 @@ use Rattle.load_plan.specs.Facts.{crossed, end_below}
 use Rattle.load_plan.proofs.out_of_order.Given as goal
 
 abbrev pub invariant-loop-k : goal.invariant-loop-k
-invariant-loop-k l = (l.k ≤ l.l.n) × ((l.end + l.l ≡ end_below (seg_at l.l.f l.l.j) l.l l.k) × (any_below (crossed (seg_at l.l.f l.l.j) l.l) l.k ≡ false))
+invariant-loop-k l = (l.k ≤ l.n) × ((l.end + l.l ≡ end_below (seg_at l.f l.j) l.l l.k) × (any_below (crossed (seg_at l.f l.j) l.l) l.k ≡ false))
 
 abbrev pub decreases-loop-k : goal.decreases-loop-k
-decreases-loop-k l = l.l.n - l.k
+decreases-loop-k l = l.n - l.k

@@ -8,7 +8,7 @@ unfolding late_number
 returns-then-any c = rw (sym c.any.ensures ∙ c.if-any.true)
 
 pub out_of_order-requires : goal.out_of_order-requires
-out_of_order-requires c = (c.requires.0, (c.requires.1, sym c.any.ensures ∙ c.if-any.false))
+out_of_order-requires c = record { held = c.requires.0; window = c.requires.1; inside = sym c.any.ensures ∙ c.if-any.false }
 
 pub returns-then-out_of_order : goal.returns-then-out_of_order
 unfolding late_number
