@@ -1,5 +1,7 @@
 // The common data of a file in one walk over its sections: both symbol tables, the dynamic entries, the hash table.
 // Later sections replace earlier ones, and any fault among them is the answer.
+#![tactic(auto)]
+
 ghost use Rattle.std.specs.Prelude.{◌≡◌, ◌+◌, ◌^◌, ◌≤◌, ◌<◌, length};
 ghost use Rattle.endian.specs.Place.{size_of, section_header};
 ghost use Rattle.parse.specs.Entry.{count_of};

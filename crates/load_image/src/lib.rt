@@ -1,5 +1,7 @@
 // Carrying out a load plan in the memory of its window, and loading a file: plan it, then carry it out.
 // The memory's byte 0 is the window's first. A table of records is not trusted: each record is tested before a byte is written.
+#![tactic(auto)]
+
 ghost use Rattle.std.specs.Prelude.{◌≡◌, true, false, ◌*◌, ◌≤◌, length};
 ghost use Rattle.load_rules.specs.Rules.{any_below};
 ghost use Rattle.load_plan.specs.Plan.{window_of};

@@ -1,5 +1,7 @@
 // The entries as rows of numbers, as they cross to C: the values in the order in which include/loadplan.h lists them.
 // Signed numbers cross as two's complement of 64 bits.
+#![tactic(auto)]
+
 ghost use Rattle.std.specs.Prelude.{◌≡◌};
 ghost use Rattle.rows.specs.Row.{twos, section_row, segment_row, symbol_row, packed_row, rel_row, rela_row, dyn_row};
 

@@ -1,6 +1,8 @@
 // Walks over a table in batches: as many whole entries as there are and as a lent array has room for, one behind the other.
 // How many they are is computed once, so no turn tests a range. `walk` tells class and order apart once: each of its four
 // calls has a loop of its own with nothing left to choose.
+#![tactic(auto)]
+
 ghost use Rattle.std.specs.Prelude.{◌≡◌, ◌+◌, ◌*◌, ◌≤◌, ◌<◌, length};
 ghost use Rattle.memory.specs.Run.{put};
 ghost use Rattle.walks.specs.Walk.{size_in, width_of, row_in, row_at, batch_of, Walked};
