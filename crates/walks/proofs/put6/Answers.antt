@@ -4,4 +4,4 @@ use Rattle.walks.proofs.Row.{put_row}
 use Rattle.walks.proofs.put6.Goals as goal
 
 pub returns : goal.returns
-returns c = put_row 5 c.args.t3 c.args.out.now c.args.at (omega arith) c.requires
+returns c = put_row 5 c.args.row c.args.out.now c.args.at (omega arith) c.requires
