@@ -1,5 +1,7 @@
 // The functions of include/loadplan.h, by their C names: each asks one question of the crates below and puts the answer
 // into the caller's array. Nothing else is here.
+#![tactic(auto)]
+
 ghost use Rattle.std.specs.Prelude.{◌≡◌, length};
 ghost use Rattle.parse.specs.Entry.{range_at};
 ghost use Rattle.file.specs.Open.{header_of};

@@ -1,4 +1,6 @@
 // What crosses to C: the values of an answer in a lent array, or the number of a refusal and the array as it was.
+#![tactic(auto)]
+
 ghost use Rattle.std.specs.Prelude.{◌≡◌};
 ghost use Rattle.file.specs.Open.{header_of};
 ghost use Rattle.elf_bytes.specs.Open.{open_of};

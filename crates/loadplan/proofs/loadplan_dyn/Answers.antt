@@ -1,0 +1,10 @@
+-- `loadplan::loadplan_dyn` meets its contract.
+-- Assumes nothing.
+use mathlib.Core.Path.{refl}
+use Rattle.loadplan.proofs.loadplan_dyn.Goals as goal
+
+pub returns-in-Refused : goal.returns-in-Refused
+returns-in-Refused c = rw (← c.kind_of-k.ensures, c.in-Refused.is) (refl, refl)
+
+pub returns-in-Is : goal.returns-in-Is
+returns-in-Is c = rw (← c.kind_of-k.ensures, c.in-Is.is) (rw c.entry.ensures at c.put_dyn.ensures)
