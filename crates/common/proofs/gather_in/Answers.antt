@@ -25,10 +25,13 @@ loop-i-init c = (omega arith, refl)
 -- i is a counted entry, which lies in the table
 counted : (c : In-loop-i) → c.loop-i.i < count_of (size_of section_header c.args.elf.class) (length c.args.t.now)
 counted c = rw (← c.size_of-size.ensures, ← c.count-n.ensures) c.loop-i-test.true
+
 lies : (c : In-loop-i) → c.loop-i.i * c.size_of-size.result + size_of section_header c.args.elf.class ≤ length c.args.t.now
 lies c = rw c.size_of-size.ensures (entry_inside c.args.elf.class _ _ (counted c))
+
 held : (c : In-loop-i) → length c.args.t.now < 2 ^ 64
 held c = omega arith
+
 wide_entry : (c : In-loop-i) → 8 ≤ size_of section_header c.args.elf.class
 wide_entry c = entry_wide c.args.elf.class
 
@@ -95,25 +98,25 @@ loop-i-preserved c =
     let k = kinded (goal.at.loop-i-preserved c).After-u32_in-kind in (
       omega (arith, c.loop-i-test.true),
       rw add-one
-      (elim c.if-kind.branch [
-        then-kind+in-Is+then-kind-eq2 w ↦
-          rw (w.symtab-is, w.dynsym-is, w.dynamic-is, w.hash-is)
-          (t ∙ adds_symtab _ _ a.r _ q.sections_at q.headers _ _ (sym k ∙ w.if-kind-eq2.true) ∙ ap (with_symtab g) (sym w.symbols_of-g.ensures ∙ w.in-Is.is))
-      | then-kind+in-Is+else-kind-eq2 w ↦
-          rw (w.symtab-is, w.dynsym-is, w.dynamic-is, w.hash-is)
-          (t ∙ adds_dynsym _ _ a.r _ q.sections_at q.headers _ _ (sym k ∙ second _ 2 11 w.if-kind.true w.if-kind-eq2.false) ∙ ap (with_dynsym g) (sym w.symbols_of-g.ensures ∙ w.in-Is.is))
-      | else-kind+then-kind-2+in-Is-g+then-kind-eq6 w ↦
-          rw (w.symtab-is, w.dynsym-is, w.dynamic-is, w.hash-is)
-          (t ∙ adds_dynamic _ _ a.r _ q.sections_at q.headers _ _ (sym k ∙ w.if-kind-eq6.true) ∙ ap (with_dynamic g) (sym w.table_of-g.ensures ∙ w.in-Is-g.is))
-      | else-kind+then-kind-2+in-Is-g+else-kind-eq6 w ↦
-          rw (w.symtab-is, w.dynsym-is, w.dynamic-is, w.hash-is)
-          (t ∙ adds_hash _ _ a.r _ q.sections_at q.headers _ _ (sym k ∙ second _ 6 5 w.if-kind-2.true w.if-kind-eq6.false) ∙ ap (with_hash g) (sym w.table_of-g.ensures ∙ w.in-Is-g.is))
-      | else-kind+else-kind-2 w ↦
-          let m = neither _ 2 11 w.if-kind.false in
-          let n = neither _ 6 5 w.if-kind-2.false in
-          rw (w.symtab-is, w.dynsym-is, w.dynamic-is, w.hash-is)
-          (t ∙ adds_nothing _ _ a.r _ q.sections_at q.headers _ _ (λ e. m.0 (k ∙ e)) (λ e. m.1 (k ∙ e)) (λ e. n.0 (k ∙ e)) (λ e. n.1 (k ∙ e)))
-      ]),
+          (elim c.if-kind.branch [
+            | then-kind+in-Is+then-kind-eq2 w ↦
+                rw (w.symtab-is, w.dynsym-is, w.dynamic-is, w.hash-is)
+                (t ∙ adds_symtab _ _ a.r _ q.sections_at q.headers _ _ (sym k ∙ w.if-kind-eq2.true) ∙ ap (with_symtab g) (sym w.symbols_of-g.ensures ∙ w.in-Is.is))
+            | then-kind+in-Is+else-kind-eq2 w ↦
+                rw (w.symtab-is, w.dynsym-is, w.dynamic-is, w.hash-is)
+                (t ∙ adds_dynsym _ _ a.r _ q.sections_at q.headers _ _ (sym k ∙ second _ 2 11 w.if-kind.true w.if-kind-eq2.false) ∙ ap (with_dynsym g) (sym w.symbols_of-g.ensures ∙ w.in-Is.is))
+            | else-kind+then-kind-2+in-Is-g+then-kind-eq6 w ↦
+                rw (w.symtab-is, w.dynsym-is, w.dynamic-is, w.hash-is)
+                (t ∙ adds_dynamic _ _ a.r _ q.sections_at q.headers _ _ (sym k ∙ w.if-kind-eq6.true) ∙ ap (with_dynamic g) (sym w.table_of-g.ensures ∙ w.in-Is-g.is))
+            | else-kind+then-kind-2+in-Is-g+else-kind-eq6 w ↦
+                rw (w.symtab-is, w.dynsym-is, w.dynamic-is, w.hash-is)
+                (t ∙ adds_hash _ _ a.r _ q.sections_at q.headers _ _ (sym k ∙ second _ 6 5 w.if-kind-2.true w.if-kind-eq6.false) ∙ ap (with_hash g) (sym w.table_of-g.ensures ∙ w.in-Is-g.is))
+            | else-kind+else-kind-2 w ↦
+                let m = neither _ 2 11 w.if-kind.false in
+                let n = neither _ 6 5 w.if-kind-2.false in
+                rw (w.symtab-is, w.dynsym-is, w.dynamic-is, w.hash-is)
+                (t ∙ adds_nothing _ _ a.r _ q.sections_at q.headers _ _ (λ e. m.0 (k ∙ e)) (λ e. m.1 (k ∙ e)) (λ e. n.0 (k ∙ e)) (λ e. n.1 (k ∙ e)))
+          ]),
     )
 
 pub returns : goal.returns

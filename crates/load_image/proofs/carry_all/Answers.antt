@@ -38,7 +38,6 @@ loop-k-preserved c =
       ),
     )
 
-
 pub returns : goal.returns
 returns c =
     let a = c.args in

@@ -34,8 +34,8 @@ loop-k-preserved c =
     let r = c.is_real.ensures in
     let seg = seg_at a.f.now a.j in
     elim c.if-is_real.branch [
-      then-is_real w ↦ (omega arith, (w.c-is ∙ ap (λ (n : ℕ). n + 1) l.invariant.1.0 ∙ count_real seg 0 l.k 0 s e (sym r ∙ w.if-is_real.true), omega arith))
-    | else-is_real w ↦ (omega arith, (w.c-is ∙ l.invariant.1.0 ∙ count_skip seg 0 l.k 0 s e (sym r ∙ w.if-is_real.false), omega arith))
+      | then-is_real w ↦ (omega arith, (w.c-is ∙ ap (λ (n : ℕ). n + 1) l.invariant.1.0 ∙ count_real seg 0 l.k 0 s e (sym r ∙ w.if-is_real.true), omega arith))
+      | else-is_real w ↦ (omega arith, (w.c-is ∙ l.invariant.1.0 ∙ count_skip seg 0 l.k 0 s e (sym r ∙ w.if-is_real.false), omega arith))
     ]
 
 pub returns : goal.returns

@@ -63,13 +63,12 @@ loop-k-preserved c =
     let r = c.is_real.ensures in (
       omega arith,
       elim c.if-is_real.branch [
-        then-is_real w ↦ fill_real (seg_at a.f.now a.j) a.w.start c.low_of-l.result l.k c.header_at-s.result e l.c l.at a.table.now l.table l.invariant.1 c.if-is_real.c c.if-is_real.at c.if-is_real.table
-          (sym r ∙ w.if-is_real.true) w.record_of.result w.record_of.ensures (room_here (goal.at.loop-k-preserved c).After-is_real w.if-is_real.true) w.c-is w.at-is (w.table-is ∙ w.put_record.ensures)
-      | else-is_real w ↦ fill_skip (seg_at a.f.now a.j) a.w.start c.low_of-l.result l.k c.header_at-s.result e l.c l.at a.table.now l.table l.invariant.1 c.if-is_real.c c.if-is_real.at c.if-is_real.table
-          (sym r ∙ w.if-is_real.false) w.c-is w.at-is w.table-is
+        | then-is_real w ↦ fill_real (seg_at a.f.now a.j) a.w.start c.low_of-l.result l.k c.header_at-s.result e l.c l.at a.table.now l.table l.invariant.1 c.if-is_real.c c.if-is_real.at c.if-is_real.table
+            (sym r ∙ w.if-is_real.true) w.record_of.result w.record_of.ensures (room_here (goal.at.loop-k-preserved c).After-is_real w.if-is_real.true) w.c-is w.at-is (w.table-is ∙ w.put_record.ensures)
+        | else-is_real w ↦ fill_skip (seg_at a.f.now a.j) a.w.start c.low_of-l.result l.k c.header_at-s.result e l.c l.at a.table.now l.table l.invariant.1 c.if-is_real.c c.if-is_real.at c.if-is_real.table
+            (sym r ∙ w.if-is_real.false) w.c-is w.at-is w.table-is
       ],
     )
-
 
 pub returns : goal.returns
 unfolding plan_in

@@ -66,23 +66,23 @@ loop-k-preserved c =
     let r = c.is_real.ensures in
     let i = c.loop-k.invariant in
     elim c.if-is_real.branch [
-      then-is_real+else-first_page-end w ↦
-        let p = here (goal.at.loop-k-preserved c).After-is_real w.if-is_real.true in
-        let rl = sym r ∙ w.if-is_real.true in (
-          omega arith,
-          (
-            ap (λ (n : ℕ). n + l) (w.end-is ∙ w.last_page-end.ensures) ∙ end_real seg l k end s e rl p.page p.low,
-            none_more (crossed seg l) k i.1.1 (crossed_no seg l k end s e rl p.page p.low i.1.0 (omega (arith, w.first_page.ensures, w.if-first_page-end.false))),
-          ),
-        )
-    | else-is_real w ↦
-        let rl = sym r ∙ w.if-is_real.false in (
-          omega arith,
-          (
-            ap (λ (n : ℕ). n + l) w.end-is ∙ end_skip seg l k end s e rl i.1.0,
-            none_more (crossed seg l) k i.1.1 (crossed_skip seg l k end s e rl),
-          ),
-        )
+      | then-is_real+else-first_page-end w ↦
+          let p = here (goal.at.loop-k-preserved c).After-is_real w.if-is_real.true in
+          let rl = sym r ∙ w.if-is_real.true in (
+            omega arith,
+            (
+              ap (λ (n : ℕ). n + l) (w.end-is ∙ w.last_page-end.ensures) ∙ end_real seg l k end s e rl p.page p.low,
+              none_more (crossed seg l) k i.1.1 (crossed_no seg l k end s e rl p.page p.low i.1.0 (omega (arith, w.first_page.ensures, w.if-first_page-end.false))),
+            ),
+          )
+      | else-is_real w ↦
+          let rl = sym r ∙ w.if-is_real.false in (
+            omega arith,
+            (
+              ap (λ (n : ℕ). n + l) w.end-is ∙ end_skip seg l k end s e rl i.1.0,
+              none_more (crossed seg l) k i.1.1 (crossed_skip seg l k end s e rl),
+            ),
+          )
     ]
 
 pub returns : goal.returns

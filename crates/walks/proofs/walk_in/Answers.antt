@@ -73,7 +73,6 @@ done c = le_antisymm c.loop-k.invariant.0 c.loop-k-test.false
 counted : (c : After-loop-k) → c.batch-n.result ≡ visited c.args.kind c.args.class c.args.t.now c.args.from (length c.args.out.now)
 counted c = rw (c.size_of-size.ensures, c.width_of-width.ensures) at c.batch-n.ensures
 
-
 pub returns : goal.returns
 returns c = record {
   many = counted (goal.at.returns c).After-loop-k;
