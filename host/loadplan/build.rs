@@ -1,7 +1,7 @@
 //! Finds the proved archive and has it linked.
 //!
 //! The archive libloadplan.a is looked for in the folder that LOADPLAN_ARCHIVE names, else in target/staticlib of the
-//! repository. If it is not there it is proved and made by `rt staticlib loadplan`; with LOADPLAN_ARCHIVE set nothing is
+//! repository. If it is not there it is proved and made by `tools/archive`; with LOADPLAN_ARCHIVE set nothing is
 //! made, a missing archive is then an error.
 
 use std::env;
@@ -36,11 +36,11 @@ fn archive_of_repository() -> PathBuf {
 }
 
 fn prove(repository: &Path) {
-    println!("cargo:warning=no {ARCHIVE} yet: proving it with `rt staticlib loadplan`, this takes minutes");
-    let ended = Command::new("rt").args(["staticlib", "loadplan"]).current_dir(repository).status();
+    println!("cargo:warning=no {ARCHIVE} yet: proving it with tools/archive, this takes minutes");
+    let ended = Command::new(repository.join("tools").join("archive")).status();
     match ended {
         Ok(status) if status.success() => {}
-        Ok(status) => panic!("`rt staticlib loadplan` ended with {status}"),
-        Err(fault) => panic!("`rt` cannot be started: {fault}"),
+        Ok(status) => panic!("tools/archive ended with {status}"),
+        Err(fault) => panic!("tools/archive cannot be started: {fault}"),
     }
 }
