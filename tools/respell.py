@@ -108,10 +108,10 @@ def turned(text, rows, kept=()):
     return "\n".join(lines)
 
 
-def turned_page(text, known):
+def turned_page(text, rows, known):
     """The code spans of a page: a word turns if its new spelling is a name that is defined."""
     def word(m):
-        return snake(m[0]) if snake(m[0]) in known else m[0]
+        return rows.get(m[0]) or (snake(m[0]) if snake(m[0]) in known else m[0])
 
     return re.sub(r"`[^`\n]+`", lambda m: WORD.sub(word, m[0]), text)
 
@@ -130,7 +130,7 @@ def main():
             if path.startswith(start):
                 mine.update(names)
         if path.endswith(".md"):
-            new = turned_page(old, known)
+            new = turned_page(old, mine, known)
         elif path.endswith(".rt"):
             # a name with a dash can only be antt's there: rt fmt puts spaces about a minus
             new = turned(old, mine)

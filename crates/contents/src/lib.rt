@@ -90,6 +90,7 @@ pub fn segment_at(d: &[u8], i: usize) -> GotProgramHeader
 }
 
 // The bytes of a section: type 8 has none.
+#[tactic(auto, unfolding(crate::specs::Contents::data_of))]
 pub fn section_data(d: &[u8], kind: u32, offset: usize, size: usize) -> GotRange
     ensures { result ≡ data_of (length d.now) kind offset size }
 {
@@ -135,6 +136,7 @@ pub fn segment_data(d: &[u8], offset: usize, filesz: usize) -> GotRange
 }
 
 // As dynamic entries: the type, then the entry size, then the bytes.
+#[tactic(auto, unfolding(crate::specs::Contents::dynamic_in))]
 pub fn dynamic_in(
     class: Class,
     d: &[u8],

@@ -167,6 +167,7 @@ fn header64(order: Order, d: &[u8]) -> FileHeader
 }
 
 // The identification: the class and the order, or the number of the first test that fails.
+#[tactic(auto, unfolding(crate::specs::Open::ident_of))]
 pub fn identify(d: &[u8]) -> Ident
     ensures { result ≡ ident_of d.now }
 {

@@ -47,6 +47,7 @@ pub fn table_of(g: GotRange) -> GotTable
 // ---- names of sections
 
 // Which section holds the names: ffff means the link field of section header 0.
+#[tactic(auto, unfolding(crate::specs::Lookup::name_index))]
 fn name_index(elf: Elf, d: &[u8]) -> GotIndex
     requires { Whole d.now elf }
     ensures { result ≡ name_index d.now elf }
