@@ -1,17 +1,18 @@
 #!/usr/bin/env python3
 """Brings the repository's own definitions and lemmas to today's spelling: functions, lemmas, fields and constructors of
-antt in snake case, types and modules as they are. Run once, at the top, right after the kit's port.py; a second run
-writes nothing. A lemma that would take the name of the definition that it is about gets `_lem` behind it. Functions of
-src/, exported names, strings, inputs and outputs keep their names. Proof files of a function (proofs/F/) keep the names
-of goals, which are Rattle's."""
+antt in snake case, types and modules as they are. Run once, at the top, right after the kit's port.py: a tree that is
+turned already, one with docs/PORT.md, is refused. A lemma that would take the name of the definition that it is about
+gets `_lem` behind it. Functions of src/, exported names, strings, inputs and outputs keep their names. Proof files of a
+function (proofs/F/) keep the names of goals, which are Rattle's."""
 import collections
 import os
 import re
 import sys
 
 HEAD = re.compile(
-    r"^(?:  )?(?:(?:abbrev|unfoldable|data|record|pub)\s+)*([^\s:(){}=.]+)(?:\s+[({].*)?\s+:(?:\s|$)")
+    r"^(?: {0,6})(?:(?:abbrev|unfoldable|data|record|pub)\s+)*([^\s:(){}=.]+)(?:\s+[({].*)?\s+:(?:\s|$)")
 RULES = re.compile(r"^(?:pub\s+)?ruleset\s+(?:pub\s+)?([^\s(){}=.]+)")
+ALIAS = re.compile(r"^use Rattle\.\S+ as ([\w-]+)$")
 GOAL = re.compile(r":\s+(?:\([^)]*\)\s+→\s+)*tie\.")
 WORD = re.compile(r"(?<![^\s(){}.;,@\"«»`\[\]])[^\s(){}.;,@\"«»`\[\]]+(?![^\s(){}.;,@\"«»`\[\]])")
 # these fall together with a definition that the same file sees; the second is a field in one crate and a lemma in another
@@ -44,6 +45,9 @@ def own_names():
         of_function = path.count("/") > 4
         with open(path, encoding="utf-8") as f:
             for line in f:
+                m = ALIAS.match(line)
+                if m:
+                    found[m.group(1)].add(path)
                 if line.startswith(("use ", "--")):
                     continue
                 m = HEAD.match(line) or RULES.match(line)
@@ -117,6 +121,8 @@ def turned_page(text, rows, known):
 
 
 def main():
+    if os.path.exists("docs/PORT.md"):
+        sys.exit("respell: this tree is turned already (docs/PORT.md)")
     found = own_names()
     rows = table(found)
     known = set(found) | set(rows.values())

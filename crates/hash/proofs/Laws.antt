@@ -125,30 +125,30 @@ module _ (e : Order) (h : List ℕ) where
       pick false q r = let z : ◌≡◌ {A = ℕ} 0 1 = cc in absurd (omega arith)
 
   module _ (d : Head) (same : d ≡ head_of e h) where
-    pub told-buckets : d.buckets ≡ bucket_count e h
+    pub told_buckets : d.buckets ≡ bucket_count e h
     unfolding head_of
-    told-buckets = ap (λ (x : Head). x.buckets) same
+    told_buckets = ap (λ (x : Head). x.buckets) same
 
-    pub told-chains : d.chains ≡ chain_count e h
+    pub told_chains : d.chains ≡ chain_count e h
     unfolding head_of
-    told-chains = ap (λ (x : Head). x.chains) same
+    told_chains = ap (λ (x : Head). x.chains) same
 
-    pub told-room : hash_fault e h ≡ no_fault → 8 + 4 * d.buckets + 4 * d.chains ≤ length h
-    told-room p = rw (told-buckets, told-chains) (head_room p)
+    pub told_room : hash_fault e h ≡ no_fault → 8 + 4 * d.buckets + 4 * d.chains ≤ length h
+    told_room p = rw (told_buckets, told_chains) (head_room p)
 
     -- the chain followed
     pub next_here : (i : ℕ) → i < d.chains → 4 * d.chains < 2 ^ 64 → Next (number_at e 4 h (8 + 4 * d.buckets + 4 * i)) ≡ next_of e h i
     unfolding next_of count_of
     next_here i p q =
-        let k : i < chain_count e h = rw told-chains at p in
-        let r : 4 * chain_count e h < 2 ^ 64 = rw told-chains at q in
-        rw (told-buckets, readable 4 (4 * chain_count e h) i (omega arith) r (omega arith))
+        let k : i < chain_count e h = rw told_chains at p in
+        let r : 4 * chain_count e h < 2 ^ 64 = rw told_chains at q in
+        rw (told_buckets, readable 4 (4 * chain_count e h) i (omega arith) r (omega arith))
 
-    pub next-out : (i : ℕ) (g : Fault) → d.chains ≤ i → g ≡ entry_fault 4 (4 * d.chains) i → Fails g ≡ next_of e h i
+    pub next_out : (i : ℕ) (g : Fault) → d.chains ≤ i → g ≡ entry_fault 4 (4 * d.chains) i → Fails g ≡ next_of e h i
     unfolding next_of count_of
-    next-out i g p q =
-        let k : chain_count e h ≤ i = rw told-chains at p in
-        let r : g ≡ entry_fault 4 (4 * chain_count e h) i = rw told-chains at q in
+    next_out i g p q =
+        let k : chain_count e h ≤ i = rw told_chains at p in
+        let r : g ≡ entry_fault 4 (4 * chain_count e h) i = rw told_chains at q in
         refused _ g _ Fails r (λ z. let w : i < 4 * chain_count e h / 4 = counted 4 (4 * chain_count e h) i g (omega arith) r z in omega arith)
 
 -- the bucket of a hash lies in the table
@@ -157,7 +157,7 @@ pub start_room : (e : Order) (h : List ℕ) (d : Head) (n : ℕ) → Is d ≡ an
 start_room e h d n p q =
     let t = head_told e h d p in
     let b : 0 < d.buckets = omega arith in
-    omega (arith, told-room e h d t.1 t.0, mod-lt n b)
+    omega (arith, told_room e h d t.1 t.0, mod-lt n b)
 
 -- a symbol's size, and where its name stands
 pub size_room : (c : Class) → 4 ≤ size_of symbol c
@@ -240,15 +240,15 @@ module _ (c : Class) (e : Order) (h syms strs name : List ℕ) where
     unfolding find_of
     find_none p =
         let t = head_told e h d told in
-        let b : bucket_count e h ≡ 0 = sym (told-buckets e h d t.1) ∙ p in
+        let b : bucket_count e h ≡ 0 = sym (told_buckets e h d t.1) ∙ p in
         rw (t.0, eq-eqb (bucket_count e h) 0 b)
 
-    pub find-walk : (n s : ℕ) (r : Lookup) → (d.buckets ≡ 0 → ⊥) → n ≡ sysv_hash name → s ≡ number_at e 4 h (8 + 4 * (n % d.buckets))
+    pub find_walk : (n s : ℕ) (r : Lookup) → (d.buckets ≡ 0 → ⊥) → n ≡ sysv_hash name → s ≡ number_at e 4 h (8 + 4 * (n % d.buckets))
         → r ≡ walk_of c e h syms strs name d.chains s → r ≡ find_of c e h syms strs name
     unfolding find_of
-    find-walk n s r p q u v =
+    find_walk n s r p q u v =
         let t = head_told e h d told in
-        let b = told-buckets e h d t.1 in
+        let b = told_buckets e h d t.1 in
         let w : s ≡ start_of c e h syms strs name = rw (q, b) at u in
         let k : bucket_count e h ≡ 0 → ⊥ = rw b at p in
-        rw (t.0, ne_eqb (bucket_count e h) 0 k) (rw (told-chains e h d t.1, w) at v)
+        rw (t.0, ne_eqb (bucket_count e h) 0 k) (rw (told_chains e h d t.1, w) at v)

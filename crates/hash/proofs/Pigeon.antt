@@ -13,9 +13,9 @@ module _ (n m : ℕ) (f : ℕ → ℕ) where
   moved i = cond (eqb (f i) n) (f m) (f i)
 
   module _ (small : (i : ℕ) → i < suc m → f i < suc n) (apart : (i j : ℕ) → i < suc m → j < suc m → f i ≡ f j → i ≡ j) where
-    moved-small : (i : ℕ) → i < m → moved i < n
+    moved_small : (i : ℕ) → i < m → moved i < n
     unfolding moved
-    moved-small i p = pick (eqb (f i) n) refl
+    moved_small i p = pick (eqb (f i) n) refl
       where
         pick : (t : Bool) → eqb (f i) n ≡ t → cond t (f m) (f i) < n
         pick true q =
@@ -38,5 +38,5 @@ pub pigeons : (n m : ℕ) (f : ℕ → ℕ) → ((i : ℕ) → i < m → f i < n
 pigeons n zero f small apart = omega arith
 pigeons zero (suc m) f small apart = absurd (let k = small 0 (omega arith) in omega arith)
 pigeons (suc n) (suc m) f small apart =
-    let k = pigeons n m (moved n m f) (moved-small n m f small apart) (moved_apart n m f small apart) in
+    let k = pigeons n m (moved n m f) (moved_small n m f small apart) (moved_apart n m f small apart) in
     omega arith

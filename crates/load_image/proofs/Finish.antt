@@ -19,7 +19,7 @@ use Rattle.load_image.specs.Carry.{carry_number, carried_below, CarriedOut}
 use Rattle.load_image.specs.Image.{Loaded, SafeRecords, Done, load_answer}
 use Rattle.load_image.proofs.Laws.{carries}
 use Rattle.load_image.proofs.Segments.{safe_segments}
-use Rattle.load_image.proofs.Table.{safe-records, sound-table, all-loaded}
+use Rattle.load_image.proofs.Table.{safe_records, sound_table, all_loaded}
 
 module _ (f : List ℕ) (w : Window) (table table' : List ℕ) (n : ℕ) (p : Made f w table table' (Planned n)) where
   pub begins : Begins f w (length table) n
@@ -37,7 +37,7 @@ module _ (f : List ℕ) (w : Window) (table table' : List ℕ) (n : ℕ) (p : Ma
   safe_plan =
       let j = begins.job in
       subst (λ (t : List ℕ). SafeRecords f j w t n) (sym table_is)
-      (subst (λ (k : ℕ). SafeRecords f j w (table_bytes (plan_in f w j) ++ rest) k) (sym begins.count_is) (safe-records f j w (length table) begins.accepted_is rest))
+      (subst (λ (k : ℕ). SafeRecords f j w (table_bytes (plan_in f w j) ++ rest) k) (sym begins.count_is) (safe_records f j w (length table) begins.accepted_is rest))
 
   pub done : (old new : List ℕ) (d : ℕ) → length old ≡ w.len → CarriedOut f w table' n old new d → Done f w table' n old new
   done old new d hm c =
@@ -46,7 +46,7 @@ module _ (f : List ℕ) (w : Window) (table table' : List ℕ) (n : ℕ) (p : Ma
       let rs = plan_in f w j in
       let e0 : carry_number w (length f) table' n (length old) ≡ 0 =
       ap₂ (λ (t : List ℕ) (k : ℕ). carry_number w (length f) t k (length old)) table_is begins.count_is
-      ∙ carries w (length f) (table_bytes rs ++ rest) (length rs) (length old) (sound-table f j w (length table) acc rest (length old) hm) in
+      ∙ carries w (length f) (table_bytes rs ++ rest) (length rs) (length old) (sound_table f j w (length table) acc rest (length old) hm) in
       let e1 : eqb d 0 ≡ true = eq-eqb d 0 (c.answers ∙ e0) in
       let e2 : new ≡ carried_below w.start f (table_bytes rs ++ rest) (length rs) old =
       c.memory ∙ ap (λ (b : Bool). cond b (carried_below w.start f table' n old) old) e1
@@ -56,5 +56,5 @@ module _ (f : List ℕ) (w : Window) (table table' : List ℕ) (n : ℕ) (p : Ma
         is_job = begins.is_job;
         segments = safe_segments f j w (length table) acc;
         pieces = safe_plan;
-        image = subst (λ (z : List ℕ). Loaded f j w old z) (sym e2) (all-loaded f j w (length table) acc rest old hm);
+        image = subst (λ (z : List ℕ). Loaded f j w old z) (sym e2) (all_loaded f j w (length table) acc rest old hm);
       }

@@ -143,12 +143,12 @@ module _ (f : List ℕ) (j : Job) (w : Window) (room : ℕ) (acc : Accepted f j 
         go true e = ltb-true _ _ e
         go false e = absurd (omega (arith, count_mono (seg_at f j) b a (ltb-false _ _ e), p.nth, q.nth))
 
-    neat-at : (k : ℕ) → k < many → Neat w.start w.len (length f) (record_at table k)
-    neat-at k h = let q = (known k h).1 in rw q.is (record_neat (length f) (low j.kind w) w (seg_at f j (known k h).0) q.place)
+    neat_at : (k : ℕ) → k < many → Neat w.start w.len (length f) (record_at table k)
+    neat_at k h = let q = (known k h).1 in rw q.is (record_neat (length f) (low j.kind w) w (seg_at f j (known k h).0) q.place)
 
-    apart-at : (i k : ℕ) → i < k → k < many → (record_at table i).page + (record_at table i).len ≤ (record_at table k).page
+    apart_at : (i k : ℕ) → i < k → k < many → (record_at table i).page + (record_at table i).len ≤ (record_at table k).page
     unfolding record_of
-    apart-at i k lt h =
+    apart_at i k lt h =
         let a = known i (omega arith) in
         let b = known k h in
         let p = a.1 in
@@ -157,12 +157,12 @@ module _ (f : List ℕ) (j : Job) (w : Window) (room : ℕ) (acc : Accepted f j 
         rw (p.is, q.is) (omega (arith, p.edges, q.edges, s))
 
     pub pieces : Pieces w.start w.len (length f) table many
-    pieces = record { neat = neat-at; apart = λ i k lt h. inl (apart-at i k lt h) }
+    pieces = record { neat = neat_at; apart = λ i k lt h. inl (apart_at i k lt h) }
 
-    pub sound-table : (mlen : ℕ) → mlen ≡ w.len → Sound w (length f) table many mlen
-    sound-table mlen e =
+    pub sound_table : (mlen : ℕ) → mlen ≡ w.len → Sound w (length f) table many mlen
+    sound_table mlen e =
         let n : length table ≡ 48 * many + length x = length-append (table_bytes (plan_in f w j)) x ∙ ap (λ (z : ℕ). z + length x) (length_table (plan_in f w j)) in
-        record { holds = omega arith; memory_is = e; fitted = λ k lt. (neat-at k lt).fits }
+        record { holds = omega arith; memory_is = e; fitted = λ k lt. (neat_at k lt).fits }
 
     -- ---- the promises of the records
 
@@ -199,12 +199,12 @@ module _ (f : List ℕ) (j : Job) (w : Window) (room : ℕ) (acc : Accepted f j 
         let hi = s.5 in
         (count_below (seg_at f j) s.0, counted s.0 s.1 s.2, rw q.is (omega arith), rw q.is (omega arith), rw q.is (omega arith))
 
-    pub safe-records : SafeRecords f j w table many
-    safe-records = record {
+    pub safe_records : SafeRecords f j w table many
+    safe_records = record {
       in_window = in_window;
-      apart = apart-at;
+      apart = apart_at;
       covered = covered;
-      bytes_in = λ k lt. let q = neat-at k lt in (q.front, q.back, q.fits.in_file);
+      bytes_in = λ k lt. let q = neat_at k lt in (q.front, q.back, q.fits.in_file);
       never_both = never;
       entry = entry_in;
     }
@@ -241,5 +241,5 @@ module _ (f : List ℕ) (j : Job) (w : Window) (room : ℕ) (acc : Accepted f j 
           let v = rw q.is at b in
           free (known k lt).0 (record { below = q.below; is_real = q.is_real; from = omega arith; to = omega arith }))
 
-      pub all-loaded : Loaded f j w m (carried_below w.start f table many m)
-      all-loaded = record { same_length = all_length w.start f table many m here; loaded = loaded_at; kept = kept_at }
+      pub all_loaded : Loaded f j w m (carried_below w.start f table many m)
+      all_loaded = record { same_length = all_length w.start f table many m here; loaded = loaded_at; kept = kept_at }

@@ -91,9 +91,9 @@ module _ (seg : ℕ → ProgramHeader) (l n : ℕ) (inside : (k : ℕ) → k < n
       (end_of seg l k)
 
   module _ (none : any_below (crossed seg l) n ≡ false) where
-    end-first : (k : ℕ) → k < n → real (seg k) ≡ true → end_below seg l k ≤ first (seg k)
+    end_first : (k : ℕ) → k < n → real (seg k) ≡ true → end_below seg l k ≤ first (seg k)
     unfolding crossed
-    end-first k lt r =
+    end_first k lt r =
         let c : crossed seg l k ≡ false = none_at (crossed seg l) n k none lt in
         ltb-false (first (seg k)) (end_below seg l k) (rw r at c)
 
@@ -106,21 +106,21 @@ module _ (seg : ℕ → ProgramHeader) (l n : ℕ) (inside : (k : ℕ) → k < n
             → last (seg i) ≤ cond b (last (seg k)) (end_below seg l k)
         go ih true e = ⊎_elim
             (λ q. rw q (omega arith))
-            (λ lt'. omega (arith, ih lt' r, end-first k hk e, inner (seg k) e))
+            (λ lt'. omega (arith, ih lt' r, end_first k hk e, inner (seg k) e))
         go ih false e = ⊎_elim
             (λ q. absurd (true≢false (sym r ∙ ap (λ (x : ℕ). real (seg x)) q ∙ e)))
             (λ lt'. ih lt' r)
 
-    no-clash : (k : ℕ) → k < n → clash_at seg k ≡ false
+    no_clash : (k : ℕ) → k < n → clash_at seg k ≡ false
     unfolding clash_at clash_with
-    no-clash k lt = none_of (clash_with seg k) k (λ i h. apart_clash (seg i) (seg k) (λ ri rk. le_trans (below_end k (omega arith) i h ri) (end-first k lt rk)))
+    no_clash k lt = none_of (clash_with seg k) k (λ i h. apart_clash (seg i) (seg k) (λ ri rk. le_trans (below_end k (omega arith) i h ri) (end_first k lt rk)))
 
   pub crossed_clash : any_below (crossed seg l) n ≡ any_below (clash_at seg) n
   crossed_clash = go (any_below (crossed seg l) n) refl
     where
       go : (b : Bool) → any_below (crossed seg l) n ≡ b → any_below (crossed seg l) n ≡ any_below (clash_at seg) n
       go true e = let q = found (crossed seg l) n e in e ∙ sym (some_at (clash_at seg) n q.0 (crossed_found q.0 q.1 q.2) q.1)
-      go false e = e ∙ sym (none_of (clash_at seg) n (no-clash e))
+      go false e = e ∙ sym (none_of (clash_at seg) n (no_clash e))
 
 -- so it is for a file of which no segment is outside the window
 pub order_is : (f : List ℕ) (j : Job) (w : Window) (l : ℕ) → l ≡ low j.kind w → good_window w ≡ true → any_below (test_at f j w 24) j.count ≡ false

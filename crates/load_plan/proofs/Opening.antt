@@ -20,7 +20,7 @@ use Rattle.elf_bytes.specs.declared.Table.{Table}
 use Rattle.elf_bytes.specs.declared.Table.TheVariants.{Absent, At}
 use Rattle.elf_bytes.specs.declared.Opened.{Opened}
 use Rattle.elf_bytes.specs.declared.Opened.TheVariants as opened
-use Rattle.elf_bytes.proofs.Laws as open-laws
+use Rattle.elf_bytes.proofs.Laws as open_laws
 use Rattle.load_rules.specs.Rules.{max_file}
 use Rattle.load_plan.specs.declared.Job.{Job}
 use Rattle.load_plan.specs.declared.Begun.{Begun}
@@ -76,7 +76,7 @@ held f j e = short (leb (length f) max_file) refl e
 
     told : (o : Opened) → open_of f ≡ o → length f ≤ max_file → begun_in o ≡ begun.Is j → Held f j
     told (opened.Refused x) p s q = let z : ◌≡◌ {A = ℕ} 0 1 = cc in absurd (omega arith)
-    told (opened.Is elf) p s q = tabled elf elf.segments (open-laws.opened f elf p).segments s q
+    told (opened.Is elf) p s q = tabled elf elf.segments (open_laws.opened f elf p).segments s q
 
     short : (b : Bool) → leb (length f) max_file ≡ b → cond b (begun_in (open_of f)) (begun.Refused no_fault) ≡ begun.Is j → Held f j
     short true p q = told (open_of f) refl (leb-true _ _ p) q

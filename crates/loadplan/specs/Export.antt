@@ -19,12 +19,12 @@ use Rattle.segment.specs.Layout.{segment_at}
 use Rattle.symbol.specs.Layout.{symbol_at}
 use Rattle.relocation.specs.Layout.{rel_at, rela_at}
 use Rattle.dynamic.specs.Layout.{dyn_at}
-use Rattle.section.specs.declared.GotSectionHeader.TheVariants as got-section
-use Rattle.segment.specs.declared.GotProgramHeader.TheVariants as got-segment
-use Rattle.symbol.specs.declared.GotSymbol.TheVariants as got-symbol
-use Rattle.relocation.specs.declared.GotRel.TheVariants as got-rel
-use Rattle.relocation.specs.declared.GotRela.TheVariants as got-rela
-use Rattle.dynamic.specs.declared.GotDyn.TheVariants as got-dyn
+use Rattle.section.specs.declared.GotSectionHeader.TheVariants as got_section
+use Rattle.segment.specs.declared.GotProgramHeader.TheVariants as got_segment
+use Rattle.symbol.specs.declared.GotSymbol.TheVariants as got_symbol
+use Rattle.relocation.specs.declared.GotRel.TheVariants as got_rel
+use Rattle.relocation.specs.declared.GotRela.TheVariants as got_rela
+use Rattle.dynamic.specs.declared.GotDyn.TheVariants as got_dyn
 use Rattle.string_table.specs.Text.{text_fault, text_range}
 use Rattle.string_table.specs.Utf8.{utf8_fault}
 use Rattle.hash.specs.Table.{hash_fault, head_of}
@@ -51,32 +51,32 @@ utf8_in t o = answer (utf8_fault t o) (range.Is (text_range t o)) range.Refused
 abbrev pub section_in : List ℕ → ℕ → Ident → Reply
 section_in t i (ident.Refused f) = refused f.number
 section_in t i (ident.Is c e) =
-    section_reply (answer (entry_fault (size_of section_header c) (length t) i) (got-section.Is (section_at c e t (i * size_of section_header c))) got-section.Refused)
+    section_reply (answer (entry_fault (size_of section_header c) (length t) i) (got_section.Is (section_at c e t (i * size_of section_header c))) got_section.Refused)
 
 abbrev pub segment_in : List ℕ → ℕ → Ident → Reply
 segment_in t i (ident.Refused f) = refused f.number
 segment_in t i (ident.Is c e) =
-    segment_reply (answer (entry_fault (size_of program_header c) (length t) i) (got-segment.Is (segment_at c e t (i * size_of program_header c))) got-segment.Refused)
+    segment_reply (answer (entry_fault (size_of program_header c) (length t) i) (got_segment.Is (segment_at c e t (i * size_of program_header c))) got_segment.Refused)
 
 abbrev pub symbol_in : List ℕ → ℕ → Ident → Reply
 symbol_in t i (ident.Refused f) = refused f.number
 symbol_in t i (ident.Is c e) =
-    symbol_reply (answer (entry_fault (size_of symbol c) (length t) i) (got-symbol.Is (symbol_at c e t (i * size_of symbol c))) got-symbol.Refused)
+    symbol_reply (answer (entry_fault (size_of symbol c) (length t) i) (got_symbol.Is (symbol_at c e t (i * size_of symbol c))) got_symbol.Refused)
 
 abbrev pub rel_in : List ℕ → ℕ → Ident → Reply
 rel_in t i (ident.Refused f) = refused f.number
 rel_in t i (ident.Is c e) =
-    rel_reply (answer (entry_fault (size_of rel c) (length t) i) (got-rel.Is (rel_at c e t (i * size_of rel c))) got-rel.Refused)
+    rel_reply (answer (entry_fault (size_of rel c) (length t) i) (got_rel.Is (rel_at c e t (i * size_of rel c))) got_rel.Refused)
 
 abbrev pub rela_in : List ℕ → ℕ → Ident → Reply
 rela_in t i (ident.Refused f) = refused f.number
 rela_in t i (ident.Is c e) =
-    rela_reply (answer (entry_fault (size_of rela c) (length t) i) (got-rela.Is (rela_at c e t (i * size_of rela c))) got-rela.Refused)
+    rela_reply (answer (entry_fault (size_of rela c) (length t) i) (got_rela.Is (rela_at c e t (i * size_of rela c))) got_rela.Refused)
 
 abbrev pub dyn_in : List ℕ → ℕ → Ident → Reply
 dyn_in t i (ident.Refused f) = refused f.number
 dyn_in t i (ident.Is c e) =
-    dyn_reply (answer (entry_fault (size_of dynamic c) (length t) i) (got-dyn.Is (dyn_at c e t (i * size_of dynamic c))) got-dyn.Refused)
+    dyn_reply (answer (entry_fault (size_of dynamic c) (length t) i) (got_dyn.Is (dyn_at c e t (i * size_of dynamic c))) got_dyn.Refused)
 
 -- ---- the hash table
 

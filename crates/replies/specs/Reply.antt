@@ -19,17 +19,17 @@ use Rattle.parse.specs.declared.GotRange.TheVariants as range
 use Rattle.elf_bytes.specs.declared.Table.{Table}
 use Rattle.elf_bytes.specs.declared.Table.TheVariants as table
 use Rattle.elf_bytes.specs.declared.GotTable.{GotTable}
-use Rattle.elf_bytes.specs.declared.GotTable.TheVariants as got-table
+use Rattle.elf_bytes.specs.declared.GotTable.TheVariants as got_table
 use Rattle.elf_bytes.specs.declared.Opened.{Opened}
 use Rattle.elf_bytes.specs.declared.Opened.TheVariants as opened
 use Rattle.contents.specs.declared.Symbols.{Symbols}
 use Rattle.contents.specs.declared.Symbols.TheVariants as symbols
 use Rattle.contents.specs.declared.GotSymbols.{GotSymbols}
-use Rattle.contents.specs.declared.GotSymbols.TheVariants as got-symbols
+use Rattle.contents.specs.declared.GotSymbols.TheVariants as got_symbols
 use Rattle.parse.specs.declared.Found.{Found}
 use Rattle.parse.specs.declared.Found.TheVariants as found
 use Rattle.lookup.specs.declared.GotFound.{GotFound}
-use Rattle.lookup.specs.declared.GotFound.TheVariants as got-found
+use Rattle.lookup.specs.declared.GotFound.TheVariants as got_found
 use Rattle.hash.specs.declared.Lookup.{Lookup}
 use Rattle.hash.specs.declared.Lookup.TheVariants as lookup
 use Rattle.hash.specs.declared.GotHead.{GotHead}
@@ -86,8 +86,8 @@ table_row table.Absent = 0 ∷ 0 ∷ 0 ∷ []
 table_row (table.At r) = 1 ∷ r.from ∷ r.to ∷ []
 
 abbrev pub table_reply : GotTable → Reply
-table_reply (got-table.Refused f) = refused f.number
-table_reply (got-table.Is t) = values (table_row t)
+table_reply (got_table.Refused f) = refused f.number
+table_reply (got_table.Is t) = values (table_row t)
 
 abbrev pub pair_row : SymbolTable → List ℕ
 pair_row t = t.symbols.from ∷ t.symbols.to ∷ t.strings.from ∷ t.strings.to ∷ []
@@ -97,13 +97,13 @@ symbols_row symbols.Absent = 0 ∷ 0 ∷ 0 ∷ 0 ∷ 0 ∷ []
 symbols_row (symbols.At t) = 1 ∷ pair_row t
 
 abbrev pub symbols_reply : GotSymbols → Reply
-symbols_reply (got-symbols.Refused f) = refused f.number
-symbols_reply (got-symbols.Is s) = values (symbols_row s)
+symbols_reply (got_symbols.Refused f) = refused f.number
+symbols_reply (got_symbols.Is s) = values (symbols_row s)
 
 abbrev pub pair_reply : GotSymbols → Reply
-pair_reply (got-symbols.Refused f) = refused f.number
-pair_reply (got-symbols.Is symbols.Absent) = values (0 ∷ 0 ∷ 0 ∷ 0 ∷ [])
-pair_reply (got-symbols.Is (symbols.At t)) = values (pair_row t)
+pair_reply (got_symbols.Refused f) = refused f.number
+pair_reply (got_symbols.Is symbols.Absent) = values (0 ∷ 0 ∷ 0 ∷ 0 ∷ [])
+pair_reply (got_symbols.Is (symbols.At t)) = values (pair_row t)
 
 -- ---- what is looked for
 
@@ -112,8 +112,8 @@ found_row found.Nothing = 0 ∷ 0 ∷ []
 found_row (found.At i) = 1 ∷ i ∷ []
 
 abbrev pub found_reply : GotFound → Reply
-found_reply (got-found.Refused f) = refused f.number
-found_reply (got-found.Is x) = values (found_row x)
+found_reply (got_found.Refused f) = refused f.number
+found_reply (got_found.Is x) = values (found_row x)
 
 abbrev pub lookup_reply : Lookup → Reply
 lookup_reply (lookup.Refused f) = refused f.number

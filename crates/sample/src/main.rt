@@ -1,6 +1,6 @@
 // Reads a file from standard input and prints its header and its program headers, all numbers hexadecimal; then writes the header
 // and the first program header out and reads them again; then prints the refusals of damaged identifications.
-// Assumes what std says of reading and writing, and nothing else. A write that fails ends the program with that error.
+// Assumes what std says of reading and writing, and nothing else. A read or a write that fails ends the program with that error.
 #![tactic(auto)]
 
 ghost use Rattle.std.specs.Prelude.{◌≤◌, IfOk};

@@ -71,8 +71,8 @@ module _ (t : List ℕ) (o : ℕ) (name : List ℕ) where
   word_other k h n = run_other (λ m. n (word_at k h (λ j p q. m j (omega arith) q)))
 
   module _ (a : Bytes t) (b : Bytes name) where
-    pub word-matched : (k e : ℕ) → e ≤ k + 8 → number_at Little 8 t (o + k) ≡ number_at Little 8 name k → Matched e → Matched k
-    word-matched k e h w m j p q = pick (leb e j) refl
+    pub word_matched : (k e : ℕ) → e ≤ k + 8 → number_at Little 8 t (o + k) ≡ number_at Little 8 name k → Matched e → Matched k
+    word_matched k e h w m j p q = pick (leb e j) refl
       where
         pick : (x : Bool) → leb e j ≡ x → get_or t (o + j) 0 ≡ get_or name j 0
         pick true r = m j (leb-true e j r) q
@@ -87,5 +87,5 @@ module _ (t : List ℕ) (o : ℕ) (name : List ℕ) where
     first_word k h l r m = pick (eqb (number_at Little 8 t o) (number_at Little 8 name 0)) refl
       where
         pick : (x : Bool) → eqb (number_at Little 8 t o) (number_at Little 8 name 0) ≡ x → x ≡ same_run t o name
-        pick true q = sym (run_matched r (word-matched 0 k h (rw (add-zero o) (eqb-true _ _ q)) m))
+        pick true q = sym (run_matched r (word_matched 0 k h (rw (add-zero o) (eqb-true _ _ q)) m))
         pick false q = sym (word_other 0 l (λ e. eqb-false _ _ q (rw (add-zero o) at e)))

@@ -2,7 +2,7 @@
 -- Assumes nothing.
 use native.Mathlib.Omega.{arith}
 use mathlib.Core.Path.{sym, ◌∙◌}
-use Rattle.hash.proofs.Laws.{head_told, start_room, find_refused, find_none, find-walk}
+use Rattle.hash.proofs.Laws.{head_told, start_room, find_refused, find_none, find_walk}
 use Rattle.hash.proofs.find.Goals as goal
 
 pub returns-then-b-eq0 : goal.returns-then-b-eq0
@@ -27,7 +27,7 @@ walk-requires c =
 
 pub returns-else-b-eq0 : goal.returns-else-b-eq0
 returns-else-b-eq0 c =
-    find-walk _ _ _ _ _ _ _ (sym c.in-Is.is ∙ c.header-g.ensures) _ _ _ c.if-b-eq0.false
+    find_walk _ _ _ _ _ _ _ (sym c.in-Is.is ∙ c.header-g.ensures) _ _ _ c.if-b-eq0.false
     c.sysv_hash.ensures c.u32_in-start.ensures c.walk.ensures
 
 pub returns-in-Refused : goal.returns-in-Refused

@@ -2,7 +2,7 @@
 -- Assumes nothing.
 use native.Mathlib.Omega.{arith}
 use mathlib.Core.Path.{sym, ◌∙◌}
-use Rattle.string_table.proofs.Runs.{word_other, word-matched, first_word}
+use Rattle.string_table.proofs.Runs.{word_other, word_matched, first_word}
 use Rattle.string_table.proofs.same_words.Goals as goal
 
 pub loop-k-init : goal.loop-k-init
@@ -24,7 +24,7 @@ pub loop-k-preserved : goal.loop-k-preserved
 loop-k-preserved c =
     let a = c.args in (
       omega arith,
-      word-matched a.t.now a.o a.name.now (λ i. omega (arith, c.shared_slice_known-1.given i)) (λ i. omega (arith, c.shared_slice_known-2-1.given i)) _ _ (omega arith)
+      word_matched a.t.now a.o a.name.now (λ i. omega (arith, c.shared_slice_known-1.given i)) (λ i. omega (arith, c.shared_slice_known-2-1.given i)) _ _ (omega arith)
           (sym c.u64_in.ensures ∙ c.if-u64_in.false ∙ c.u64_in-in-loop-k.ensures) c.loop-k.invariant.1,
     )
 
