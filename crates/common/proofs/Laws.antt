@@ -1,9 +1,9 @@
 -- The laws of the walk for common data: a fault stays the answer, and a hash table's header tells its range.
 -- Assumes nothing.
-use Prim.Native.Nat.{ℕ, zero, suc, ◌+◌, ◌*◌, ◌≤◌}
+use Prim.Native.Nat.{ℕ, zero, suc, ◌+◌, ◌*◌}
 use native.Mathlib.Omega.{arith}
 use native.Mathlib.Nat.{add-zero, add-suc}
-use mathlib.Core.Path.{◌≡◌, refl, sym, ap, ◌∙◌}
+use mathlib.Core.Path.{◌≡◌, refl, ap}
 use mathlib.Core.Bool.{Bool, true, false, cond}
 use mathlib.Core.List.{List}
 use lib.Dec.{eqb}
@@ -19,9 +19,8 @@ use Rattle.hash.proofs.Laws.{head_told}
 use Rattle.elf_bytes.specs.declared.Elf.{Elf}
 use Rattle.elf_bytes.specs.declared.Table.TheVariants.{Absent, At}
 use Rattle.elf_bytes.specs.declared.GotTable.TheVariants as table
-use Rattle.common.specs.Common.{hash_in, next_of, below_of, finished_with, finished, with_dynamic}
+use Rattle.common.specs.Common.{hash_in, next_of, below_of, finished_with, finished}
 use Rattle.common.specs.declared.Common.{Common}
-use Rattle.common.specs.declared.GotCommon.{GotCommon}
 use Rattle.common.specs.declared.GotCommon.TheVariants.{Is, Refused}
 
 pub hash_refused : (e : Order) (t : List ℕ) (o : ℕ) (f : Fault) → head.Refused f ≡ answer (hash_fault e t) (head.Is (head_of e t)) head.Refused → table.Refused f ≡ hash_in e o t

@@ -10,17 +10,15 @@ use lib.ListN.{length, drop, length-drop}
 use lib.Seq.{length-take-le}
 use lib.Dec.{eqb}
 use borrow.Author.Tests.{le-leb, eqb-true, eq-eqb, ne_eqb}
-use Rattle.endian.specs.Range.{answer}
 use Rattle.endian.specs.Place.{size_of, section_header}
 use Rattle.endian.specs.declared.Fault.{Fault}
 use Rattle.endian.specs.declared.Class.{Class}
 use Rattle.endian.specs.declared.Class.TheVariants.{Elf32, Elf64}
-use Rattle.parse.specs.Entry.{entry_fault, count_of}
+use Rattle.parse.specs.Entry.{count_of}
 use Rattle.parse.specs.declared.Range.{Range}
 use Rattle.parse.proofs.Laws.{inside, readable}
 use Rattle.section.specs.Layout.{section_at}
 use Rattle.section.specs.declared.SectionHeader.{SectionHeader}
-use Rattle.section.specs.declared.GotSectionHeader.TheVariants as header
 use Rattle.elf_bytes.specs.declared.Elf.{Elf}
 use Rattle.elf_bytes.specs.declared.Table.{Table}
 use Rattle.elf_bytes.specs.declared.Table.TheVariants.{Absent, At}

@@ -1,7 +1,7 @@
 -- The symbols of an opened file are those of its table of section headers.
 -- Assumes nothing.
 use Prim.Native.Nat.{ℕ, ◌*◌}
-use mathlib.Core.Path.{◌≡◌, refl, sym, ap, ◌∙◌}
+use mathlib.Core.Path.{◌≡◌, refl, ap, ◌∙◌}
 use mathlib.Core.Bool.{Bool, true, false, cond}
 use mathlib.Core.List.{List}
 use lib.ListN.{length}
@@ -17,9 +17,8 @@ use Rattle.section.specs.declared.SectionHeader.{SectionHeader}
 use Rattle.section.specs.declared.GotSectionHeader.TheVariants as header
 use Rattle.elf_bytes.specs.declared.Elf.{Elf}
 use Rattle.elf_bytes.specs.declared.Table.{Table}
-use Rattle.elf_bytes.specs.declared.Table.TheVariants.{Absent, At}
+use Rattle.elf_bytes.specs.declared.Table.TheVariants.{At}
 use Rattle.contents.specs.Contents.{part_of, section_from, section_in, symbols_with, symbols_from, symbols_in, symbols_at}
-use Rattle.contents.specs.declared.GotSymbols.{GotSymbols}
 use Rattle.contents.specs.declared.GotSymbols.TheVariants as got
 
 -- an answer that is passed on

@@ -11,13 +11,12 @@ use lib.Dec.{leb, eqb}
 use borrow.Author.Tests.{leb-true, leb-false, eqb-true}
 use Rattle.parse.specs.Entry.{range_of}
 use Rattle.parse.specs.declared.Range.{Range}
-use Rattle.endian.specs.Range.{faulty, no_fault, fault_at, answer}
+use Rattle.endian.specs.Range.{faulty, no_fault, fault_at}
 use Rattle.endian.specs.Place.{size_of, file_header, section_header, program_header}
 use Rattle.endian.specs.declared.Fault.{Fault}
 use Rattle.endian.specs.declared.Order.{Order}
 use Rattle.endian.specs.declared.Class.{Class}
 use Rattle.endian.proofs.Laws.{faultless}
-use Rattle.section.specs.Layout.{section_at}
 use Rattle.file.specs.Layout.{header_at, outline_of}
 use Rattle.file.specs.Open.{ident_of, header_in, header_of}
 use Rattle.file.specs.declared.GotHeader.TheVariants as header

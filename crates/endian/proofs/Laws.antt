@@ -1,16 +1,16 @@
 -- The laws of `number_at`, `bytes_of` and `swapped`, over the width and the order, and of `fault_at`.
 -- Assumes nothing.
 use Prim.Native.Nat.{ℕ, zero, suc, ◌+◌, ◌*◌, ◌^◌, ◌/◌, ◌%◌, ◌<◌, ◌≤◌}
-use native.Mathlib.Nat.{add-zero, zero-add, suc-add, pow-suc, pow-succ', mul_assoc, mul_comm, mul-add, div-one, div-div-eq-div-mul, mul-pos}
+use native.Mathlib.Nat.{add-zero, zero-add, suc-add, pow-suc, pow-succ', mul_assoc, mul_comm, mul-add, div-one, div-div-eq-div-mul}
 use native.Mathlib.Omega.{arith}
 use mathlib.Core.Path.{◌≡◌, refl, sym, ap, ◌∙◌}
 use mathlib.Core.Bool.{Bool, true, false, cond}
 use mathlib.Core.List.{List}
 use lib.ListN.{get_or}
-use lib.Dec.{leb, eqb}
+use lib.Dec.{leb}
 use lib.Pow.{pow-add}
 use lib.Arith.{mod-mul}
-use borrow.Author.Tests.{leb-true, leb-false, le-leb, lt-leb, eq-eqb, ne_eqb}
+use borrow.Author.Tests.{leb-true, ne_eqb}
 use Rattle.endian.specs.Number.{number_at, joined, swapped, ordered}
 use Rattle.endian.specs.Range.{fault_at, answer, faulty, no_fault}
 use Rattle.endian.specs.declared.Fault.{Fault}

@@ -2,8 +2,8 @@
 -- Assumes nothing.
 use Prim.Native.Nat.{ℕ, suc, ◌+◌, ◌*◌, ◌-◌, ◌^◌, ◌<◌, ◌≤◌}
 use native.Mathlib.Omega.{arith}
-use mathlib.Core.Path.{◌≡◌, refl, sym, ap, ◌∙◌}
-use lib.IntN.{ℤ, pos, negsuc, ◌+ℤ◌, ◌-ℤ◌}
+use mathlib.Core.Path.{◌≡◌, ap}
+use lib.IntN.{pos, negsuc, ◌+ℤ◌}
 use borrow.Author.Tests.{lt-ltb, le-ltb}
 use Rattle.endian.specs.Number.{signed}
 

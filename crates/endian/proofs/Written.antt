@@ -1,10 +1,10 @@
 -- The laws of what is written: the bytes of a number, in parts and in either order; and a number that is written reads back.
 -- Assumes nothing.
 use Prim.Native.Nat.{ℕ, zero, suc, ◌+◌, ◌*◌, ◌^◌, ◌/◌, ◌%◌, ◌<◌, ◌≤◌}
-use native.Mathlib.Nat.{zero-add, suc-add, add-zero, pow-suc, pow-succ', pow-zero, mul_comm, div-one, mod-lt, div-div-eq-div-mul, mod-add-div, div-add-mod, div-lt_iff_lt-mul, mod-eq_of_lt}
+use native.Mathlib.Nat.{zero-add, suc-add, add-zero, pow-suc, pow-succ', mul_comm, div-one, mod-lt, div-div-eq-div-mul, mod-add-div, div-add-mod, div-lt_iff_lt-mul}
 use native.Mathlib.Numerals.{add-one}
 use native.Mathlib.Omega.{arith}
-use mathlib.Core.Path.{◌≡◌, refl, sym, ap, ◌∙◌}
+use mathlib.Core.Path.{◌≡◌, refl, ap, ◌∙◌}
 use mathlib.Core.List.{List, [], ◌∷◌, ◌++◌}
 use lib.ListN.{length, get_or, set, length-set}
 use lib.Seq.{sets, get_or-set_same, get_or-set_other}

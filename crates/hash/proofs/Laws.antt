@@ -16,7 +16,7 @@ use Rattle.endian.specs.declared.Fault.{Fault}
 use Rattle.endian.specs.declared.Order.{Order}
 use Rattle.endian.specs.declared.Class.{Class}
 use Rattle.endian.specs.declared.Class.TheVariants.{Elf32, Elf64}
-use Rattle.endian.proofs.Laws.{faultless, answered, refused}
+use Rattle.endian.proofs.Laws.{faultless, refused}
 use Rattle.parse.specs.Entry.{entry_fault, count_of}
 use Rattle.parse.proofs.Laws.{readable, counted}
 use Rattle.symbol.specs.Layout.{symbol_at}

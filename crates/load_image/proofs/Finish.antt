@@ -1,9 +1,8 @@
 -- From what `plan` and `carry_out` ensure to the outcome of loading.
 -- Assumes nothing.
 use Prim.Native.Nat.{ℕ, ◌*◌}
-use native.Mathlib.Omega.{arith}
-use mathlib.Core.Path.{◌≡◌, refl, sym, ap, ap₂, ◌∙◌, subst}
-use mathlib.Core.Bool.{Bool, true, false, cond}
+use mathlib.Core.Path.{◌≡◌, sym, ap, ap₂, ◌∙◌, subst}
+use mathlib.Core.Bool.{Bool, true, cond}
 use mathlib.Core.List.{List, ◌++◌}
 use lib.ListN.{length, drop}
 use lib.Dec.{eqb}
@@ -11,12 +10,11 @@ use borrow.Author.Tests.{eq-eqb}
 use Rattle.records.specs.Record.{table_bytes}
 use Rattle.records.specs.declared.Record.{Record}
 use Rattle.load_rules.specs.declared.Window.{Window}
-use Rattle.load_plan.specs.Plan.{plan_in, plan_of, answer_of, table_after, Made}
-use Rattle.load_plan.specs.declared.Answer.{Answer}
-use Rattle.load_plan.specs.declared.Answer.TheVariants.{Planned, Refused}
+use Rattle.load_plan.specs.Plan.{plan_in, plan_of, Made}
+use Rattle.load_plan.specs.declared.Answer.TheVariants.{Planned}
 use Rattle.load_plan.proofs.Accept.{Begins, planned}
 use Rattle.load_image.specs.Carry.{carry_number, carried_below, CarriedOut}
-use Rattle.load_image.specs.Image.{Loaded, SafeRecords, Done, load_answer}
+use Rattle.load_image.specs.Image.{Loaded, SafeRecords, Done}
 use Rattle.load_image.proofs.Laws.{carries}
 use Rattle.load_image.proofs.Segments.{safe_segments}
 use Rattle.load_image.proofs.Table.{safe_records, sound_table, all_loaded}

@@ -4,7 +4,7 @@
 use Prim.Native.Nat.{ℕ, zero, suc, ◌+◌, ◌-◌, ◌≤◌, ◌<◌}
 use native.Mathlib.Nat.{eq-or-lt_of_le, le_of_suc-le-suc, not-suc-le-zero}
 use native.Mathlib.Omega.{arith}
-use mathlib.Core.Path.{◌≡◌, refl, sym, ap, ap₂, ◌∙◌}
+use mathlib.Core.Path.{◌≡◌, refl, sym, ap, ◌∙◌}
 use mathlib.Core.Bool.{Bool, true, false, ◌&&◌, cond, true≢false}
 use mathlib.Core.List.{List}
 use mathlib.Core.Logic.{◌⊎◌, inl, inr, ⊎_elim}
@@ -18,7 +18,7 @@ use Rattle.records.specs.Record.{record_at}
 use Rattle.records.specs.declared.Record.{Record}
 use Rattle.load_rules.specs.Rules.{any_below}
 use Rattle.load_rules.proofs.Tests.{and_true, none_at, found}
-use Rattle.load_image.specs.Carry.{carried, carried_below, Fitted}
+use Rattle.load_image.specs.Carry.{carried, carried_below}
 use Rattle.load_image.specs.Pieces.{piece_byte, Neat, Pieces, Same}
 use Rattle.load_image.proofs.Laws.{length_part}
 

@@ -1,20 +1,17 @@
 -- The segments of an accepted file: where each lies, that they lie apart, the entry point; and the record of each.
 -- Assumes nothing.
-use Prim.Native.Nat.{ℕ, zero, suc, ◌+◌, ◌-◌, ◌*◌, ◌/◌, ◌%◌, ◌^◌, ◌≤◌, ◌<◌}
-use native.Mathlib.Nat.{eq-or-lt_of_le, le_of_suc-le-suc, not-suc-le-zero, le_trans}
+use Prim.Native.Nat.{ℕ, ◌+◌, ◌-◌, ◌≤◌, ◌<◌}
 use native.Mathlib.Omega.{arith}
 use mathlib.Core.Path.{◌≡◌, refl, sym, ap, ap₂, ◌∙◌}
 use mathlib.Core.Bool.{Bool, true, false, not, ◌&&◌, cond, true≢false}
 use mathlib.Core.List.{List}
-use mathlib.Core.Logic.{◌⊎◌, ⊎_elim}
 use lib.ListN.{length, get_or}
 use lib.Dec.{leb, ltb, eqb}
-use borrow.Author.Tests.{leb-true, le-leb, ltb-true, ltb-false}
+use borrow.Author.Tests.{leb-true, le-leb, ltb-true}
 use Rattle.segment.specs.declared.ProgramHeader.{ProgramHeader}
 use Rattle.records.specs.Record.{Small}
-use Rattle.records.specs.declared.Record.{Record}
-use Rattle.load_rules.specs.Rules.{any_below, real, unfit, executable, writable, write_exec, holds_entry, first, last, low, record_of, max_file}
-use Rattle.load_rules.specs.Facts.{Good, Placed}
+use Rattle.load_rules.specs.Rules.{real, unfit, executable, writable, write_exec, holds_entry, first, last, low, record_of, max_file}
+use Rattle.load_rules.specs.Facts.{Placed}
 use Rattle.load_rules.specs.declared.Window.{Window}
 use Rattle.load_rules.proofs.Tests.{and_true, nand_false, none_at, found}
 use Rattle.load_plan.specs.Plan.{seg_at, test, test_at, clash_with, clash_at}
@@ -22,9 +19,8 @@ use Rattle.load_plan.specs.Facts.{Accepted}
 use Rattle.load_plan.specs.declared.Job.{Job}
 use Rattle.load_plan.proofs.Order.{placed_at}
 use Rattle.load_plan.proofs.Clash.{clash_apart}
-use Rattle.load_image.specs.Carry.{Fitted}
 use Rattle.load_image.specs.Pieces.{piece_byte, Neat}
-use Rattle.load_image.specs.Image.{byte_of, On, SafeSegments, entry_of}
+use Rattle.load_image.specs.Image.{byte_of, SafeSegments}
 
 -- where a loaded segment lies
 pub record Sits (flen l : ℕ) (w : Window) (s : ProgramHeader) : Type 0 where

@@ -3,25 +3,25 @@
 use Prim.Native.Nat.{ℕ, zero, suc, ◌+◌, ◌-◌, ◌*◌, ◌/◌, ◌%◌, ◌≤◌, ◌<◌}
 use native.Mathlib.Nat.{eq-or-lt_of_le, le_of_suc-le-suc, not-suc-le-zero}
 use native.Mathlib.Omega.{arith}
-use mathlib.Core.Path.{◌≡◌, refl, sym, ap, ap₂, ◌∙◌, subst}
+use mathlib.Core.Path.{◌≡◌, refl, sym, ap, ◌∙◌, subst}
 use mathlib.Core.Bool.{Bool, true, false, cond}
 use mathlib.Core.List.{List, [], ◌∷◌, ◌++◌, append_assoc}
-use mathlib.Core.Logic.{◌⊎◌, inl, inr, ⊎_elim}
+use mathlib.Core.Logic.{inl, ⊎_elim}
 use lib.ListN.{length, get_or, length-append}
-use lib.Dec.{eqb, ltb}
+use lib.Dec.{ltb}
 use borrow.Author.Tests.{eqb-true, eq-eqb, ltb-true, ltb-false}
 use Rattle.segment.specs.declared.ProgramHeader.{ProgramHeader}
 use Rattle.records.specs.Record.{record_at, record_bytes, table_bytes}
 use Rattle.records.specs.declared.Record.{Record}
 use Rattle.records.proofs.Laws.{length_table, table_snoc, decoded}
-use Rattle.load_rules.specs.Rules.{real, first, last, low, record_of}
+use Rattle.load_rules.specs.Rules.{real, low, record_of}
 use Rattle.load_rules.specs.declared.Window.{Window}
 use Rattle.load_plan.specs.Plan.{seg_at, records_below, plan_in}
 use Rattle.load_plan.specs.Facts.{Accepted, count_below}
 use Rattle.load_plan.specs.declared.Job.{Job}
 use Rattle.load_plan.proofs.Order.{count_mono}
 use Rattle.load_plan.proofs.Table.{length_records, plan_count}
-use Rattle.load_image.specs.Carry.{Fitted, carried_below}
+use Rattle.load_image.specs.Carry.{carried_below}
 use Rattle.load_image.specs.Pieces.{piece_byte, Neat, Pieces}
 use Rattle.load_image.specs.Image.{byte_of, On, Loaded, SafeRecords, entry_of}
 use Rattle.load_image.proofs.Laws.{Sound}

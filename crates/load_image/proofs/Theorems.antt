@@ -1,7 +1,7 @@
 -- The theorems of a plan that is made, whatever memory it is carried out in:
 -- Again, carrying it out twice is carrying it out once; AnyOrder, its records may be carried out in any order.
 -- Assumes nothing.
-use Prim.Native.Nat.{ℕ, ◌+◌, ◌*◌, ◌≤◌, ◌<◌}
+use Prim.Native.Nat.{ℕ, ◌<◌}
 use native.Mathlib.Omega.{arith}
 use mathlib.Core.Path.{◌≡◌, refl, sym, ap, ◌∙◌, subst}
 use mathlib.Core.Bool.{Bool, true, false}

@@ -2,7 +2,7 @@
 -- Assumes nothing.
 use Prim.Native.Nat.{ℕ, ◌*◌, ◌<◌}
 use native.Mathlib.Omega.{arith}
-use mathlib.Core.Path.{◌≡◌, refl, sym, ap, ap₂, ◌∙◌}
+use mathlib.Core.Path.{◌≡◌, refl, sym, ap, ◌∙◌}
 use mathlib.Core.Bool.{Bool, true, false, not, cond, true≢false}
 use mathlib.Core.List.{List}
 use lib.ListN.{length}
@@ -17,7 +17,6 @@ use Rattle.load_plan.specs.declared.Job.{Job}
 use Rattle.load_plan.specs.declared.Begun.{Begun}
 use Rattle.load_plan.specs.declared.Begun.TheVariants as begun
 use Rattle.load_plan.specs.declared.Refusal.{Refusal}
-use Rattle.load_plan.specs.declared.Answer.{Answer}
 use Rattle.load_plan.specs.declared.Answer.TheVariants.{Planned, Refused}
 use Rattle.load_plan.specs.Plan.{seg_at, some, clash_at, other, tests, plan_in, plan_of, records_in, number_of, refusal_in, refusal_of, answer_of, begun_of, table_after, Made}
 use Rattle.load_plan.specs.Facts.{Held, Accepted, Filled}

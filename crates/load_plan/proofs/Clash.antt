@@ -8,7 +8,7 @@ use mathlib.Core.Bool.{Bool, true, false, ◌&&◌, ◌||◌, cond, true≢false
 use mathlib.Core.List.{List}
 use mathlib.Core.Logic.{◌⊎◌, inl, inr, ⊎_elim}
 use lib.Dec.{leb, ltb}
-use borrow.Author.Tests.{leb-true, leb-false, le-leb, lt-leb, ltb-true, ltb-false, lt-ltb, le-ltb}
+use borrow.Author.Tests.{leb-false, lt-leb, ltb-true, ltb-false, lt-ltb, le-ltb}
 use Rattle.segment.specs.declared.ProgramHeader.{ProgramHeader}
 use Rattle.load_rules.specs.Rules.{any_below, real, first, last, low, good_window}
 use Rattle.load_rules.specs.declared.Window.{Window}

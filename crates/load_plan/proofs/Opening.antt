@@ -3,18 +3,18 @@
 use Prim.Native.Nat.{ℕ, suc, ◌+◌, ◌-◌, ◌*◌, ◌/◌, ◌≤◌, ◌<◌}
 use native.Mathlib.Nat.{mul-le-mul_left, mul-le-mul_right, suc-mul, div-mul-le_self}
 use native.Mathlib.Omega.{arith}
-use mathlib.Core.Path.{◌≡◌, refl, sym, ap, ◌∙◌}
+use mathlib.Core.Path.{◌≡◌, refl}
 use mathlib.Core.Bool.{Bool, true, false, cond}
 use mathlib.Core.List.{List}
 use lib.ListN.{length}
 use lib.Dec.{leb, eqb}
-use borrow.Author.Tests.{leb-true, eqb-false}
+use borrow.Author.Tests.{leb-true}
 use Rattle.endian.specs.Range.{no_fault}
 use Rattle.endian.specs.Place.{size_of, program_header}
 use Rattle.endian.specs.declared.Class.{Class}
 use Rattle.endian.specs.declared.Class.TheVariants.{Elf32, Elf64}
 use Rattle.parse.specs.Entry.{count_of}
-use Rattle.elf_bytes.specs.Open.{open_of, Tabled, Whole}
+use Rattle.elf_bytes.specs.Open.{open_of, Tabled}
 use Rattle.elf_bytes.specs.declared.Elf.{Elf}
 use Rattle.elf_bytes.specs.declared.Table.{Table}
 use Rattle.elf_bytes.specs.declared.Table.TheVariants.{Absent, At}
@@ -23,9 +23,8 @@ use Rattle.elf_bytes.specs.declared.Opened.TheVariants as opened
 use Rattle.elf_bytes.proofs.Laws as open_laws
 use Rattle.load_rules.specs.Rules.{max_file}
 use Rattle.load_plan.specs.declared.Job.{Job}
-use Rattle.load_plan.specs.declared.Begun.{Begun}
 use Rattle.load_plan.specs.declared.Begun.TheVariants as begun
-use Rattle.load_plan.specs.Plan.{begun_of, begun_in, job_in, job_of, job_with}
+use Rattle.load_plan.specs.Plan.{begun_of, begun_in, job_in, job_of}
 use Rattle.load_plan.specs.Facts.{Held}
 
 -- a header is between 32 and 64 bytes

@@ -4,13 +4,13 @@ use Prim.Native.Nat.{ℕ, zero, suc, ◌+◌, ◌-◌, ◌%◌, ◌≤◌, ◌<�
 use native.Mathlib.Nat.{le_of_eq, le_trans, eq-or-lt_of_le, le_of_suc-le-suc}
 use native.Mathlib.Numerals.{add-one}
 use native.Mathlib.Omega.{arith}
-use mathlib.Core.Path.{◌≡◌, refl, sym, ap, ◌∙◌}
+use mathlib.Core.Path.{◌≡◌, sym, ap, ◌∙◌}
 use mathlib.Core.Bool.{Bool, true, false, cond}
 use mathlib.Core.List.{List}
 use mathlib.Core.Logic.{⊎_elim}
 use borrow.Author.Tests.{lt-ltb, le-ltb}
 use Rattle.segment.specs.declared.ProgramHeader.{ProgramHeader}
-use Rattle.load_rules.specs.Rules.{any_below, real, outside, good_window, low, down, up, first, last}
+use Rattle.load_rules.specs.Rules.{any_below, real, outside, good_window, low, down, up, first}
 use Rattle.load_rules.specs.Facts.{Placed}
 use Rattle.load_rules.specs.declared.Window.{Window}
 use Rattle.load_rules.proofs.Tests.{none_at}

@@ -1,18 +1,16 @@
 -- The laws of `text_named`: what the last zero byte of the names, and a look at the name itself, tell of it.
 -- Assumes nothing.
-use Prim.Native.Nat.{ℕ, ◌*◌, ◌/◌, ◌<◌, ◌≤◌}
+use Prim.Native.Nat.{ℕ, ◌*◌, ◌<◌, ◌≤◌}
 use native.Mathlib.Omega.{arith}
-use mathlib.Core.Path.{◌≡◌, refl, sym, ap, ◌∙◌}
+use mathlib.Core.Path.{◌≡◌, refl, sym, ◌∙◌}
 use mathlib.Core.Bool.{Bool, true, false, cond, ◌&&◌, and-false}
 use mathlib.Core.List.{List}
 use lib.ListN.{length}
-use lib.Dec.{eqb, leb, ltb}
+use lib.Dec.{eqb, ltb}
 use borrow.Author.Tests.{le-leb, lt-leb, le-ltb, ne_eqb}
 use Rattle.endian.specs.Number.{number_at}
 use Rattle.endian.specs.Range.{faulty, no_fault}
-use Rattle.endian.specs.declared.Fault.{Fault}
 use Rattle.endian.specs.declared.Order.{Order}
-use Rattle.parse.specs.declared.Found.{Found}
 use Rattle.parse.specs.declared.Found.TheVariants.{At, Nothing}
 use Rattle.parse.proofs.Laws.{first_never}
 use Rattle.string_table.specs.Text.{last_zero, text_fault, fault_with, text_at, same_bytes, is_clean}

@@ -3,7 +3,7 @@
 use Prim.Native.Nat.{ℕ}
 use native.Mathlib.Omega.{arith}
 use mathlib.Core.Bool.{Bool, true, false, cond}
-use mathlib.Core.Path.{◌≡◌, refl, sym, ap, ◌∙◌}
+use mathlib.Core.Path.{◌≡◌, refl, ap, ◌∙◌}
 use mathlib.Core.List.{List}
 use lib.ListN.{length}
 use lib.Dec.{eqb}
@@ -20,7 +20,6 @@ use Rattle.contents.specs.Contents.{section_in}
 use Rattle.parse.specs.declared.Range.{Range}
 use Rattle.elf_bytes.specs.declared.Elf.{Elf}
 use Rattle.elf_bytes.specs.declared.Table.TheVariants.{Absent, At}
-use Rattle.elf_bytes.specs.declared.GotTable.{GotTable}
 use Rattle.elf_bytes.specs.declared.GotTable.TheVariants.{Is}
 use Rattle.lookup.specs.declared.GotIndex.{GotIndex}
 use Rattle.lookup.specs.declared.GotIndex.TheVariants as index

@@ -3,9 +3,9 @@
 use Prim.Native.Nat.{ℕ, ◌+◌, ◌-◌, ◌≤◌, ◌<◌}
 use native.Mathlib.Nat.{add_assoc}
 use native.Mathlib.Omega.{arith}
-use mathlib.Core.Path.{◌≡◌, refl, sym, ap, ap₂, ◌∙◌}
+use mathlib.Core.Path.{◌≡◌, sym, ap, ap₂, ◌∙◌}
 use mathlib.Core.List.{List, ◌++◌, append_assoc}
-use lib.ListN.{length, take, drop, get_or, replicate, length-replicate, replicate-append-replicate, length-append, length-take, length-drop, get_or-append}
+use lib.ListN.{length, take, drop, get_or, replicate, length-replicate, replicate-append-replicate, length-append, length-drop, get_or-append}
 use lib.Seq.{drop-drop, length-take-le, get_or-append-add, get_or-take, get_or-drop, take_at, drop_at}
 use borrow.Rule.Slice.PartMut.{put_mid}
 use Rattle.memory.specs.Run.{put}

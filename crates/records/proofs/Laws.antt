@@ -1,13 +1,12 @@
 -- The laws of records in bytes: their lengths, how a table grows, and that a record that is written reads back.
 -- Assumes nothing.
-use Prim.Native.Nat.{ℕ, zero, suc, ◌+◌, ◌-◌, ◌*◌, ◌^◌, ◌≤◌, ◌<◌}
+use Prim.Native.Nat.{ℕ, ◌+◌, ◌*◌, ◌^◌, ◌≤◌, ◌<◌}
 use native.Mathlib.Omega.{arith}
 use mathlib.Core.Path.{◌≡◌, refl, sym, ap, ap₂, ◌∙◌}
 use mathlib.Core.List.{List, [], ◌∷◌, ◌++◌, append_assoc, append-nil}
-use lib.ListN.{length, take, drop, length-append, length-drop}
+use lib.ListN.{length, take, drop, length-append}
 use lib.Seq.{sets, sets-eq, take_at, drop_at, drop-append-add}
 use Rattle.endian.specs.Number.{number_at, bytes_of}
-use Rattle.endian.specs.declared.Order.{Order}
 use Rattle.endian.specs.declared.Order.TheVariants.{Little}
 use Rattle.endian.proofs.Written.{read_back, sets_append}
 use Rattle.endian.proofs.Written as written

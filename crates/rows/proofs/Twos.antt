@@ -1,14 +1,14 @@
 -- The laws of `twos`: what the machine's two's complement of 64 bits is, and that it reads back.
 -- Assumes nothing.
-use Prim.Native.Nat.{ℕ, zero, suc, ◌-◌, ◌*◌, ◌^◌, ◌≤◌, ◌<◌}
+use Prim.Native.Nat.{suc, ◌-◌, ◌^◌, ◌<◌}
 use mathlib.Core.Path.{◌≡◌, refl, sym, ap, ◌∙◌}
 use mathlib.Core.Bool.{true, false, false≢true}
 use native.Mathlib.Omega.{arith}
 use lib.IntN.{ℤ, pos, negsuc}
-use lib.Signed.{lt_z, mag}
-use lib.Dec.{T, ltb}
-use borrow.Author.Tests.{ltb-true, ltb-false}
-use mir.Val.{Fits, SFits, to_z, of_z}
+use lib.Signed.{lt_z}
+use lib.Dec.{ltb}
+use borrow.Author.Tests.{ltb-true}
+use mir.Val.{SFits, to_z, of_z}
 use mir.Syntax.{w64}
 use mir.Facts.{to_z_pos, to_z-of_z}
 use Rattle.endian.specs.Number.{signed}

@@ -1,24 +1,24 @@
 -- The laws of what is noted of strings: at first nothing is; a mark tells of one offset only; what is noted is true, stays, and is
 -- noted once.
 -- Assumes nothing.
-use Prim.Native.Nat.{ℕ, zero, suc, ◌+◌, ◌-◌, ◌*◌, ◌/◌, ◌<◌, ◌≤◌}
+use Prim.Native.Nat.{ℕ, ◌+◌, ◌-◌, ◌*◌, ◌/◌, ◌<◌, ◌≤◌}
 use native.Mathlib.Nat.{eq-or-lt_of_le, div-lt_iff_lt-mul, div-mul-le_self, lt-div-mul-add, mul_comm, add_assoc}
 use native.Mathlib.Omega.{arith}
-use mathlib.Core.Path.{◌≡◌, refl, sym, ap, ◌∙◌}
-use mathlib.Core.Bool.{Bool, true, false, cond, ◌&&◌, not, and-false}
+use mathlib.Core.Path.{◌≡◌, refl, sym, ◌∙◌}
+use mathlib.Core.Bool.{Bool, true, false, cond, ◌&&◌, not}
 use mathlib.Core.List.{List}
 use mathlib.Core.Logic.{⊎_elim}
 use lib.ListN.{length, get_or, take, drop, replicate, length-take, length-drop}
 use lib.Seq.{get_or-take, get_or-drop, take_all}
 use lib.Dec.{eqb, leb, ltb}
-use borrow.Author.Tests.{eqb-true, eqb-false, leb-true, leb-false, ltb-true, ltb-false, le-ltb, lt-ltb}
+use borrow.Author.Tests.{eqb-true, eqb-false, leb-true, leb-false, ltb-true, lt-ltb}
 use Rattle.marks.specs.Marks.{marked, marking}
 use Rattle.marks.proofs.Laws.{fresh, marking_length, marking_told, marking_keeps, marking_marks}
 use Rattle.parse.specs.declared.Found.TheVariants.{At}
 use Rattle.string_table.specs.Text.{last_zero, text_at, same_bytes, same_run, is_clean}
 use Rattle.string_table.specs.Noted.{span_of, front_of, ending, Noted, noting}
-use Rattle.string_table.proofs.Laws.{Agrees, agrees_same, stands, same_bytes_lem, same_refused, same_known, same_equal, clean_byte, all_clean, run_byte, last_inside}
-use Rattle.string_table.proofs.Runs.{Matched, run_matched, run_other}
+use Rattle.string_table.proofs.Laws.{Agrees, agrees_same, stands, same_bytes_lem, same_refused, same_known, clean_byte, all_clean, run_byte, last_inside}
+use Rattle.string_table.proofs.Runs.{run_matched, run_other}
 
 clash : (b : Bool) → b ≡ true → b ≡ false → ⊥
 clash b p q = let k : true ≡ false = sym p ∙ q in let y : ◌≡◌ {A = ℕ} 0 1 = cc in omega arith

@@ -6,7 +6,7 @@ use native.Mathlib.Omega.{arith}
 use mathlib.Core.Path.{◌≡◌, refl, sym, ap, ◌∙◌}
 use mathlib.Core.List.{List, [], ◌∷◌}
 use mathlib.Core.Bool.{Bool, true, false, cond, ◌&&◌}
-use lib.Dec.{ltb, eqb}
+use lib.Dec.{ltb}
 use borrow.Author.Tests.{lt-ltb, ltb-true, ltb-false, ne_eqb}
 use Rattle.endian.specs.Range.{faulty, no_fault}
 use Rattle.endian.specs.declared.Fault.{Fault}
@@ -14,7 +14,7 @@ use lib.ListN.{length, get_or, set, length-set}
 use lib.Seq.{sets, length-sets, get_or-set_same}
 use Rattle.endian.specs.Number.{number_at, bytes_of}
 use Rattle.endian.specs.declared.Order.{Order}
-use Rattle.endian.proofs.Written.{read_back, number_same, number_before, get_d_sets_before, length_bytes}
+use Rattle.endian.proofs.Written.{read_back, number_same, get_d_sets_before}
 use Rattle.written.specs.Rows.{Row, write_all, Fitting, fits, fault_if, write_fault, Wrote}
 
 -- each row starts at or behind the end of the one before, from p on, and the last ends by n

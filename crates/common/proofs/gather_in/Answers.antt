@@ -11,7 +11,7 @@ use Rattle.parse.specs.Entry.{count_of}
 use Rattle.section.specs.Layout.{section_at}
 use Rattle.section.proofs.Same.{kind_at}
 use Rattle.common.specs.Common.{below_of, common_with, collected, with_symtab, with_dynsym, with_dynamic, with_hash}
-use Rattle.common.specs.declared.GotCommon.TheVariants.{Is, Refused}
+use Rattle.common.specs.declared.GotCommon.TheVariants.{Refused}
 use Rattle.common.proofs.Laws.{below_refused}
 use Rattle.common.proofs.Turn.{entry_inside, entry_wide, turn, adds_symtab, adds_dynsym, adds_dynamic, adds_hash, adds_nothing, second, neither, symbols_refused, table_refused}
 use Rattle.common.proofs.gather_in.Goals as goal

@@ -2,7 +2,7 @@
 -- Assumes nothing.
 use native.Mathlib.Omega.{arith}
 use Rattle.endian.proofs.Laws.{answered, refused}
-use Rattle.elf_bytes.specs.declared.GotTable.TheVariants.{Is, Refused}
+use Rattle.elf_bytes.specs.declared.GotTable.TheVariants.{Refused}
 use Rattle.elf_bytes.proofs.Laws.{table_whole}
 use Rattle.elf_bytes.proofs.table_in.Goals as goal
 

@@ -1,9 +1,8 @@
 -- `hash::sysv_hash` meets its contract. The invariant: the bytes left, from the hash so far, make the hash of all bytes.
 -- Assumes nothing.
 use native.Mathlib.Numerals.{add-one}
-use Prim.Native.Nat.{◌-◌}
 use mathlib.Core.Path.{refl}
-use lib.ListN.{length, drop, drop_of_length-le}
+use lib.ListN.{drop_of_length-le}
 use lib.Seq.{drop-cons}
 use Rattle.hash.specs.Sysv.{sysv_from, sysv_hash}
 use Rattle.hash.proofs.sysv_hash.Goals as goal

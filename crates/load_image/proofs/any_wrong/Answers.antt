@@ -1,9 +1,7 @@
 -- `load_image::any_wrong` meets its contract: no record before the k-th passes the test. Assumes nothing.
-use Prim.Native.Nat.{◌-◌}
 use native.Mathlib.Nat.{le_antisymm}
 use native.Mathlib.Omega.{arith}
 use mathlib.Core.Path.{refl, sym, ap, ◌∙◌}
-use mathlib.Core.Bool.{true, false}
 use Rattle.load_rules.specs.Rules.{any_below}
 use Rattle.load_rules.proofs.Tests.{none_more, some_at}
 use Rattle.load_image.specs.Carry.{wrong, wrong_at}

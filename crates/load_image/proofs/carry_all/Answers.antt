@@ -1,9 +1,8 @@
 -- `load_image::carry_all` meets its contract: the records before the k-th are carried out. Assumes nothing.
-use Prim.Native.Nat.{ℕ, ◌-◌}
+use Prim.Native.Nat.{ℕ}
 use native.Mathlib.Nat.{le_antisymm}
 use native.Mathlib.Omega.{arith}
-use mathlib.Core.Path.{refl, sym, ap, ◌∙◌}
-use lib.ListN.{length}
+use mathlib.Core.Path.{refl, ap, ◌∙◌}
 use Rattle.load_image.specs.Carry.{carried_below}
 use Rattle.load_image.proofs.Laws.{sound, carry_turn}
 use Rattle.load_image.proofs.carry_all.Goals as goal

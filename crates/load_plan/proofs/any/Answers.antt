@@ -1,9 +1,7 @@
 -- `load_plan::any` meets its contract: no segment before the k-th passes the test. Assumes nothing.
-use Prim.Native.Nat.{◌-◌}
 use native.Mathlib.Nat.{le_antisymm}
 use native.Mathlib.Omega.{arith}
 use mathlib.Core.Path.{refl, sym, ap, ◌∙◌}
-use mathlib.Core.Bool.{true, false}
 use lib.ListN.{length}
 use Rattle.load_rules.specs.Rules.{any_below}
 use Rattle.load_rules.proofs.Tests.{none_more, some_at}

@@ -8,14 +8,14 @@ use Rattle.load_plan.proofs.Opening.{seg_in}
 use Rattle.load_plan.proofs.header_at.Goals as goal
 
 pub overflow_mul-k : goal.overflow_mul-k
-overflow_mul-k c = let d = c.before.before {-PLACE Start-} in rw c.size_of-size.ensures (omega (arith, seg_in d.args.f.now d.args.j d.args.k d.requires.0 d.requires.1))
+overflow_mul-k c = rw c.size_of-size.ensures (omega (arith, seg_in c.args.f.now c.args.j c.args.k c.requires.0 c.requires.1))
 
 pub overflow_add-j : goal.overflow_add-j
-overflow_add-j c = let d = c.before.before.before {-PLACE Start-} in rw c.size_of-size.ensures (omega (arith, seg_in d.args.f.now d.args.j d.args.k d.requires.0 d.requires.1))
+overflow_add-j c = rw c.size_of-size.ensures (omega (arith, seg_in c.args.f.now c.args.j c.args.k c.requires.0 c.requires.1))
 
 pub segment_in-requires : goal.segment_in-requires
-segment_in-requires c = let d = c.before.before.before {-PLACE Start-} in rw c.size_of-size.ensures (seg_in d.args.f.now d.args.j d.args.k d.requires.0 d.requires.1)
+segment_in-requires c = rw c.size_of-size.ensures (seg_in c.args.f.now c.args.j c.args.k c.requires.0 c.requires.1)
 
 pub returns : goal.returns
 unfolding seg_at
-returns c = let d = c.before.before.before.before {-PLACE Start-} in c.segment_in.ensures ∙ ap (λ (n : ℕ). segment_at d.args.j.class d.args.j.order d.args.f.now (d.args.j.from + d.args.k * n)) c.size_of-size.ensures
+returns c = c.segment_in.ensures ∙ ap (λ (n : ℕ). segment_at c.args.j.class c.args.j.order c.args.f.now (c.args.j.from + c.args.k * n)) c.size_of-size.ensures

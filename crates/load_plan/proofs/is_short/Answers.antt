@@ -10,7 +10,7 @@ use Rattle.load_plan.proofs.Table.{plan_count}
 use Rattle.load_plan.proofs.is_short.Goals as goal
 
 pub overflow_mul-result : goal.overflow_mul-result
-overflow_mul-result c = let d = c.before.before {-PLACE Start-} in let a = d.args in omega (arith, c.count.ensures, count_le (seg_at a.f.now a.j) a.j.count, count_short a.f.now a.j d.requires, d.requires.short_file)
+overflow_mul-result c = let a = c.args in omega (arith, c.count.ensures, count_le (seg_at a.f.now a.j) a.j.count, count_short a.f.now a.j c.requires, c.requires.short_file)
 
 pub returns : goal.returns
 returns c = let a = c.args in ap (λ (n : ℕ). ltb a.room (48 * n)) (c.count.ensures ∙ sym (plan_count a.f.now a.w a.j))

@@ -1,9 +1,9 @@
 -- `load_plan::out_of_order` meets its contract: `end` is where the pages of the segments before the k-th end. Assumes nothing.
-use Prim.Native.Nat.{ℕ, ◌+◌, ◌-◌}
+use Prim.Native.Nat.{ℕ, ◌+◌}
 use native.Mathlib.Nat.{le_antisymm}
 use native.Mathlib.Omega.{arith}
 use mathlib.Core.Path.{◌≡◌, refl, sym, ap, ◌∙◌}
-use mathlib.Core.Bool.{true, false}
+use mathlib.Core.Bool.{true}
 use Rattle.load_rules.specs.Rules.{any_below}
 use Rattle.load_rules.specs.Facts.{Placed}
 use Rattle.load_rules.proofs.Tests.{none_more, some_at}

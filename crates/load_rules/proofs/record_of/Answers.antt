@@ -3,4 +3,4 @@ use Rattle.load_rules.proofs.Pages.{record_eq}
 use Rattle.load_rules.proofs.record_of.Goals as goal
 
 pub returns : goal.returns
-returns c = let d = c.before.before.before.before.before.before {-PLACE Start-} in record_eq d.args.w d.args.l d.args.s d.requires c.first_page-a.result c.last_page-b.result c.first_page-a.ensures c.last_page-b.ensures
+returns c = record_eq c.args.w c.args.l c.args.s c.requires c.first_page-a.result c.last_page-b.result c.first_page-a.ensures c.last_page-b.ensures

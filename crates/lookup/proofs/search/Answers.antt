@@ -3,9 +3,8 @@
 -- Assumes nothing.
 use native.Mathlib.Nat.{sub-zero, div-le_self}
 use native.Mathlib.Omega.{arith}
-use Prim.Native.Nat.{◌+◌, ◌*◌, ◌-◌, ◌≤◌}
+use Prim.Native.Nat.{◌+◌, ◌*◌, ◌≤◌}
 use mathlib.Core.Path.{refl, sym, ◌∙◌}
-use mathlib.Core.Bool.{true, false}
 use lib.ListN.{length}
 use Rattle.parse.proofs.Laws.{inside, first_here, first_later, first_none}
 use Rattle.string_table.proofs.Notes.{none_noted}

@@ -5,9 +5,8 @@ use Prim.Native.Nat.{ℕ}
 use lib.ListN.{set, get_or}
 use lib.Seq.{take_all}
 use Rattle.memory.proofs.Fill.{all_of, copied_more}
-use Prim.Native.Nat.{◌-◌}
 use native.Mathlib.Omega.{arith}
-use lib.ListN.{length, take, length-set}
+use lib.ListN.{take, length-set}
 use Rattle.memory.proofs.copy.Goals as goal
 
 pub bounds-from-i : goal.bounds-from-i

@@ -1,13 +1,12 @@
 -- `memory::zero` meets its contract: the first i bytes are 0, and the rest is as it was. Assumes nothing.
-use mathlib.Core.Path.{ap, ◌∙◌, sym}
+use mathlib.Core.Path.{ap, ◌∙◌}
 use mathlib.Core.List.{List}
 use Prim.Native.Nat.{ℕ}
 use lib.ListN.{set}
 use native.Mathlib.Nat.{le_antisymm}
 use Rattle.memory.proofs.Fill.{all_of}
-use Prim.Native.Nat.{◌-◌}
 use native.Mathlib.Omega.{arith}
-use lib.ListN.{length, replicate, length-set}
+use lib.ListN.{replicate, length-set}
 use borrow.Author.Fill.{fill_more}
 use Rattle.memory.proofs.zero.Goals as goal
 

@@ -3,4 +3,4 @@ use Rattle.records.proofs.Laws.{two_puts}
 use Rattle.records.proofs.put_record.Goals as goal
 
 pub returns : goal.returns
-returns c = let d = c.before.before.before.before.before.before.before.before.before {-PLACE Start-} in rw (c.put_three-2.ensures, c.put_three.ensures) (two_puts d.args.t.now d.args.o d.args.r d.requires)
+returns c = rw (c.put_three-2.ensures, c.put_three.ensures) (two_puts c.args.t.now c.args.o c.args.r c.requires)

@@ -1,6 +1,5 @@
 -- `string_table::end_of` meets its contract. The invariant: what is left of the search finds what the whole search finds.
 -- Assumes nothing.
-use Prim.Native.Nat.{◌-◌}
 use mathlib.Core.Path.{refl, sym, ◌∙◌}
 use borrow.Author.Tests.{eq-eqb, ne_eqb}
 use Rattle.parse.proofs.Laws.{first_here, first_later, first_none}

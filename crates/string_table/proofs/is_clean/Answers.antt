@@ -1,6 +1,5 @@
 -- `string_table::is_clean` meets its contract. The invariant: the flag, and the bytes left, say of the name what the whole name says.
 -- Assumes nothing.
-use Prim.Native.Nat.{◌-◌}
 use mathlib.Core.Path.{refl, ◌∙◌}
 use Rattle.string_table.proofs.Laws.{clean_turn, clean_over}
 use Rattle.string_table.proofs.is_clean.Goals as goal

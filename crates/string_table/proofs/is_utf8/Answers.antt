@@ -3,9 +3,9 @@
 use native.Mathlib.Numerals.{add-one}
 use Prim.Native.Nat.{◌-◌}
 use mathlib.Core.Path.{◌∙◌}
-use lib.ListN.{length, drop, drop_of_length-le}
+use lib.ListN.{drop, drop_of_length-le}
 use lib.Seq.{drop-cons}
-use Rattle.string_table.specs.Utf8.{awaited, follows, well_formed}
+use Rattle.string_table.specs.Utf8.{awaited, well_formed}
 use Rattle.string_table.proofs.Sequences.{step, follows_end}
 use Rattle.string_table.proofs.is_utf8.Goals as goal
 

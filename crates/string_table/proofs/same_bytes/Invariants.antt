@@ -1,6 +1,6 @@
 -- `string_table::same_bytes` meets its contract. The invariant: from k on the bytes of the name are those of the table.
 -- Assumes nothing.
-use Prim.Native.Nat.{◌-◌, ◌≤◌}
+use Prim.Native.Nat.{◌≤◌}
 use lib.ListN.{length}
 use Rattle.string_table.proofs.Runs.{Matched}
 use Rattle.string_table.proofs.same_bytes.Given as goal

@@ -1,7 +1,7 @@
 -- `symbol::entry` meets its contract: an entry without a fault lies in the table.
 -- Assumes nothing.
 use native.Mathlib.Omega.{arith}
-use mathlib.Core.Path.{sym, ap, ◌∙◌}
+use mathlib.Core.Path.{ap, ◌∙◌}
 use Rattle.endian.proofs.Laws.{answered, refused}
 use Rattle.parse.proofs.Laws.{whole}
 use Rattle.symbol.specs.declared.GotSymbol.TheVariants.{Is, Refused}

@@ -1,12 +1,12 @@
 -- `walks::walk_in` meets its contract. The invariant: the rows of the entries passed stand in front, and the rest is as it was.
 -- Assumes nothing.
 use native.Mathlib.Omega.{arith}
-use Prim.Native.Nat.{◌+◌, ◌*◌, ◌-◌, ◌≤◌, ◌<◌}
+use Prim.Native.Nat.{◌+◌, ◌*◌, ◌≤◌, ◌<◌}
 use native.Mathlib.Nat.{le_antisymm}
-use mathlib.Core.Path.{◌≡◌, sym, ap, ◌∙◌}
+use mathlib.Core.Path.{◌≡◌, ap, ◌∙◌}
 use lib.ListN.{length}
 use Rattle.walks.specs.Walk.{size_in, width_of, row_at, visited}
-use Rattle.walks.proofs.Turns.{some_bytes, some_values, row_length, walked_length, no_turn, turn, batch_entry, batch_row, batch_number, batch_rows, turned}
+use Rattle.walks.proofs.Turns.{some_bytes, some_values, row_length, walked_length, no_turn, batch_entry, batch_row, batch_number, turned}
 use Rattle.walks.proofs.walk_in.Goals as goal
 use Rattle.walks.proofs.walk_in.Goals.{After-loop-k, In-loop-k}
 

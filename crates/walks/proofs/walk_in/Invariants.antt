@@ -1,6 +1,6 @@
 -- `walks::walk_in` meets its contract. The invariant: the rows of the entries passed stand in front, and the rest is as it was.
 -- Assumes nothing.
-use Prim.Native.Nat.{◌+◌, ◌*◌, ◌-◌, ◌≤◌}
+use Prim.Native.Nat.{◌*◌, ◌-◌, ◌≤◌}
 use mathlib.Core.Path.{◌≡◌}
 use mathlib.Core.List.{◌++◌}
 use lib.ListN.{drop}
