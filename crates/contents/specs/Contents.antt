@@ -7,9 +7,10 @@
 -- symbols_with, symbols_in, symbols_of  as symbols, with strings from the section that the link field names
 -- symbols_at                     the same, of a table of section headers
 -- Assumes nothing.
-use Rattle.std.specs.Prelude.{ℕ, ◌-◌, ◌*◌, cond, List, length, take, drop, eqb}
+use Rattle.std.specs.Prelude.{ℕ, ◌+◌, ◌-◌, ◌*◌, cond, List, length, take, drop, eqb}
 use Rattle.endian.specs.Range.{faulty, fault_at, answer}
 use Rattle.endian.specs.Place.{size_of, section_header, program_header, symbol, dynamic}
+use Rattle.endian.specs.declared.Fault.{Fault}
 use Rattle.endian.specs.declared.Class.{Class}
 use Rattle.endian.specs.declared.Order.{Order}
 use Rattle.parse.specs.Entry.{entry_fault, range_of, range_at}
@@ -30,6 +31,7 @@ use Rattle.elf_bytes.specs.declared.Table.TheVariants.{Absent, At}
 use Rattle.elf_bytes.specs.declared.Opened.{Opened}
 use Rattle.elf_bytes.specs.declared.Opened.TheVariants as opened
 use Rattle.contents.specs.declared.SymbolTable.{SymbolTable}
+use Rattle.contents.specs.declared.Symbols.{Symbols}
 use Rattle.contents.specs.declared.Symbols.TheVariants as symbols
 use Rattle.contents.specs.declared.GotSymbols.{GotSymbols}
 use Rattle.contents.specs.declared.GotSymbols.TheVariants as got

@@ -4,7 +4,7 @@
 -- dyn_at c e s o    the entry at o of the bytes s, in the class c and the order e
 -- val_of d, ptr_of d  the union of an entry, read as d_val and as d_ptr: one field, as wide as an address in both
 -- Assumes nothing.
-use Rattle.std.specs.Prelude.{ℕ, List, [], ◌∷◌}
+use Rattle.std.specs.Prelude.{ℕ, ◌+◌, List, [], ◌∷◌}
 use Rattle.endian.specs.Number.{signed}
 use Rattle.endian.specs.Place.{Place, place, field_at}
 use Rattle.endian.specs.declared.Order.{Order}

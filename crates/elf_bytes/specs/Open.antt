@@ -7,7 +7,7 @@
 -- open_of s                      what opening s answers
 -- Tabled s t, Whole s elf        a table lies in the file; both tables of an opened file do
 -- Assumes nothing.
-use Rattle.std.specs.Prelude.{ℕ, ◌+◌, ◌*◌, ◌^◌, ◌≤◌, cond, List, length, leb, eqb}
+use Rattle.std.specs.Prelude.{ℕ, ◌+◌, ◌*◌, ◌^◌, ◌≤◌, ◌<◌, cond, List, length, leb, eqb}
 use Rattle.endian.specs.Range.{faulty, no_fault, fault_at, answer}
 use Rattle.endian.specs.Place.{size_of, file_header, section_header, program_header}
 use Rattle.endian.specs.declared.Fault.{Fault}

@@ -2,10 +2,11 @@
 -- ident_of s    the class and the order that the identification says
 -- header_of s   the header of a file
 -- Assumes nothing.
-use Rattle.std.specs.Prelude.{ℕ, List, cond, length, get_or, eqb, leb}
+use Rattle.std.specs.Prelude.{ℕ, List, [], ◌∷◌, Bool, true, false, cond, not, length, get_or, eqb, leb}
 use Rattle.endian.specs.Range.{faulty}
 use Rattle.endian.specs.Place.{size_of, file_header}
 use Rattle.endian.specs.Number.{number_at}
+use Rattle.endian.specs.declared.Order.{Order}
 use Rattle.endian.specs.declared.Order.TheVariants.{Little, Big}
 use Rattle.endian.specs.declared.Class.{Class}
 use Rattle.endian.specs.declared.Class.TheVariants.{Elf32, Elf64}

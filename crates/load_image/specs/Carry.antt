@@ -6,7 +6,7 @@
 -- CarriedOut          what carrying out answers and leaves
 -- Fitted              a record lies in the memory and in the file
 -- Assumes nothing.
-use Rattle.std.specs.Prelude.{ℕ, zero, suc, ◌+◌, ◌-◌, ◌/◌, ◌≤◌, ◌≡◌, Bool, not, ◌&&◌, cond, List, [], ◌∷◌, length, take, drop, replicate, leb, ltb, eqb}
+use Rattle.std.specs.Prelude.{ℕ, zero, suc, ◌+◌, ◌-◌, ◌*◌, ◌/◌, ◌≤◌, ◌≡◌, Bool, true, false, not, ◌&&◌, cond, List, [], ◌∷◌, length, take, drop, replicate, leb, ltb, eqb}
 use Rattle.memory.specs.Run.{put}
 use Rattle.records.specs.Record.{record_at}
 use Rattle.records.specs.declared.Record.{Record}

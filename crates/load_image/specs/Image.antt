@@ -6,15 +6,17 @@
 -- Loaded f j w old new   the memory before and after
 -- Outcome                what loading answers and leaves
 -- Assumes nothing.
-use Rattle.std.specs.Prelude.{ℕ, ◌+◌, ◌-◌, ◌/◌, ◌%◌, ◌≤◌, ◌<◌, ◌≡◌, true, ◌&&◌, cond, List, length, get_or, leb, ltb, eqb}
+use Rattle.std.specs.Prelude.{ℕ, ◌+◌, ◌-◌, ◌/◌, ◌%◌, ◌≤◌, ◌<◌, ◌≡◌, Bool, true, false, ◌&&◌, cond, List, length, get_or, leb, ltb, eqb}
 use Rattle.endian.specs.Range.{no_fault}
 use Rattle.segment.specs.declared.ProgramHeader.{ProgramHeader}
 use Rattle.records.specs.Record.{record_at}
+use Rattle.records.specs.declared.Record.{Record}
 use Rattle.load_rules.specs.Rules.{real, first, last, low, executable, writable}
 use Rattle.load_rules.specs.declared.Window.{Window}
 use Rattle.load_plan.specs.Plan.{seg_at, begun_of, plan_of, answer_of, table_after}
 use Rattle.load_plan.specs.declared.Job.{Job}
 use Rattle.load_plan.specs.declared.Begun.TheVariants as begun
+use Rattle.load_plan.specs.declared.Refusal.{Refusal}
 use Rattle.load_plan.specs.declared.Answer.{Answer}
 use Rattle.load_plan.specs.declared.Answer.TheVariants.{Planned, Refused}
 

@@ -10,9 +10,10 @@
 -- refusal_of, answer_of  the refusal of a file; the answer
 -- Made f w old new r   what the answer r says of the table before and after
 -- Assumes nothing.
-use Rattle.std.specs.Prelude.{ℕ, zero, suc, ◌+◌, ◌-◌, ◌*◌, ◌≡◌, Bool, not, ◌&&◌, ◌||◌, cond, List, [], ◌∷◌, ◌++◌, length, drop, leb, ltb, eqb}
+use Rattle.std.specs.Prelude.{ℕ, zero, suc, ◌+◌, ◌-◌, ◌*◌, ◌≡◌, Bool, true, false, not, ◌&&◌, ◌||◌, cond, List, [], ◌∷◌, ◌++◌, length, drop, leb, ltb, eqb}
 use Rattle.endian.specs.Range.{no_fault}
 use Rattle.endian.specs.Place.{size_of, program_header}
+use Rattle.endian.specs.declared.Fault.{Fault}
 use Rattle.parse.specs.Entry.{count_of}
 use Rattle.segment.specs.Layout.{segment_at}
 use Rattle.segment.specs.declared.ProgramHeader.{ProgramHeader}

@@ -19,6 +19,7 @@ use Rattle.parse.specs.declared.Found.{Found}
 use Rattle.parse.specs.declared.Found.TheVariants as found
 use Rattle.parse.specs.declared.GotRange.{GotRange}
 use Rattle.parse.specs.declared.GotRange.TheVariants as range
+use Rattle.section.specs.declared.SectionHeader.{SectionHeader}
 use Rattle.section.specs.declared.GotSectionHeader.{GotSectionHeader}
 use Rattle.section.specs.declared.GotSectionHeader.TheVariants as header
 use Rattle.segment.specs.declared.GotProgramHeader.{GotProgramHeader}

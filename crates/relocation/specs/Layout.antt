@@ -6,7 +6,7 @@
 -- rel_at c e s o       the entry without addend at o of the bytes s, in the class c and the order e
 -- rela_at c e s o      the entry with addend
 -- Assumes nothing.
-use Rattle.std.specs.Prelude.{ℕ, ◌/◌, ◌%◌, ◌^◌, List, [], ◌∷◌}
+use Rattle.std.specs.Prelude.{ℕ, ◌+◌, ◌/◌, ◌%◌, ◌^◌, List, [], ◌∷◌}
 use Rattle.endian.specs.Number.{signed}
 use Rattle.endian.specs.Place.{Place, place, field_at}
 use Rattle.endian.specs.declared.Order.{Order}

@@ -3,7 +3,7 @@
 -- kind_of c o                 the class and the order that two numbers say: as the identification's, the class first (2, 3)
 -- range_reply g ..           the values of each kind of answer, in the order in which include/loadplan.h lists them
 -- Assumes nothing.
-use Rattle.std.specs.Prelude.{ℕ, ◌≡◌, cond, List, [], ◌∷◌, get_or, eqb}
+use Rattle.std.specs.Prelude.{ℕ, zero, suc, ◌≡◌, cond, List, [], ◌∷◌, ◌++◌, get_or, eqb}
 use Rattle.endian.specs.Range.{faulty}
 use Rattle.endian.specs.declared.Class.{Class}
 use Rattle.endian.specs.declared.Class.TheVariants.{Elf32, Elf64}

@@ -4,7 +4,7 @@
 -- section_at c e s o  the entry at o of the bytes s, in the class c and the order e
 -- extent_of h         of an entry: where its bytes stand, its link and its entry size
 -- Assumes nothing.
-use Rattle.std.specs.Prelude.{ℕ, List, [], ◌∷◌}
+use Rattle.std.specs.Prelude.{ℕ, ◌+◌, List, [], ◌∷◌}
 use Rattle.endian.specs.Place.{Place, place, field_at}
 use Rattle.endian.specs.declared.Order.{Order}
 use Rattle.endian.specs.declared.Class.{Class}

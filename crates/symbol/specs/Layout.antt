@@ -3,7 +3,7 @@
 -- fields c         every field, in the order of the places
 -- symbol_at c e s o   the entry at o of the bytes s, in the class c and the order e
 -- Assumes nothing.
-use Rattle.std.specs.Prelude.{ℕ, List, [], ◌∷◌}
+use Rattle.std.specs.Prelude.{ℕ, ◌+◌, List, [], ◌∷◌}
 use Rattle.endian.specs.Place.{Place, place, field_at}
 use Rattle.endian.specs.declared.Order.{Order}
 use Rattle.endian.specs.declared.Class.{Class}
