@@ -5,131 +5,140 @@
 
 ghost use Rattle.std.specs.Prelude.{◌≡◌, length};
 ghost use Rattle.parse.specs.Entry.{range_at};
-ghost use Rattle.elf_bytes.specs.Open.{Whole};
-ghost use Rattle.contents.specs.Contents.{section_in, section_of, segment_of, segment_in, data_of, typed_of, dynamic_in, dynamic_of, symbols_with, symbols_at, symbols_in, symbols_of};
+ghost use Rattle.elf_bytes.specs.Open.{Tabled};
+ghost use Rattle.contents.specs.Contents.{header_from, extent_in, section_in, section_of, segment_of, segment_in, data_of, typed_of, dynamic_in, dynamic_of, symbols_with, symbols_in, symbols_of, asked_of};
 
-use elf_bytes::{Elf, Opened, Table};
-use endian::{Class, Fault, Order};
-use parse::{GotRange, Range};
-use section::{Extent, GotSectionHeader};
-use segment::GotProgramHeader;
+use dynamic::Dyn;
+use elf_bytes::ElfBytes;
+use endian::{Class, Fault};
+use parse::{ParseAt, Range};
+use section::{Extent, SectionHeader};
+use segment::ProgramHeader;
+use symbol::Symbol;
 
 // Symbols and their strings.
-#[derive(Clone, Copy)]
+#[derive(Clone, Copy, Debug, PartialEq, Eq)]
 pub struct SymbolTable {
     pub symbols: Range,
     pub strings: Range,
 }
 
-#[derive(Clone, Copy)]
-pub enum Symbols {
-    Absent,
-    At(SymbolTable),
+// What a section's header says of its bytes, as a question gives it.
+#[derive(Clone, Copy, Debug, PartialEq, Eq)]
+pub struct Asked {
+    pub offset: usize,
+    pub size: usize,
+    pub link: usize,
+    pub entsize: usize,
 }
 
-#[derive(Clone, Copy)]
-pub enum GotSymbols {
-    Is(Symbols),
-    Refused(Fault),
-}
+impl From<Extent> for Asked {
+    ghost from_gives = { λ x a. a ≡ asked_of x };
 
-// Section header i: without a section table as with an empty one.
-pub fn section_in(elf: Elf, d: &[u8], i: usize) -> GotSectionHeader
-    requires { Whole d.now elf }
-    ensures { result ≡ section_in d.now elf i }
-{
-    let sections = elf.sections;
-    let class = elf.class;
-    let order = elf.order;
-    match sections {
-        Table::Absent => GotSectionHeader::Refused(Fault { number: 5 }),
-        Table::At(r) => {
-            let from = r.from;
-            let to = r.to;
-            section::entry(class, order, &d[from..to], i)
+    fn from(x: Extent) -> Asked {
+        Asked {
+            offset: x.offset as usize,
+            size: x.size as usize,
+            link: x.link as usize,
+            entsize: x.entsize as usize,
         }
     }
 }
 
-pub fn section_at(d: &[u8], i: usize) -> GotSectionHeader
+// ---- headers by number
+
+// Header i of a table of an opened file: without a table as with an empty one.
+fn header_in<E: ParseAt>(file: &ElfBytes, table: Option<Range>, i: usize) -> Result<E, Fault>
+    requires { Tabled file.now.bytes.now table }
+    ensures { result ≡ header_from E.size E.at file.now.bytes.now file.now.elf table i }
+{
+    let headers = table.ok_or(Fault::BadOffset)?.part(file.bytes);
+    parse::entry(file.elf.class, file.elf.order, headers, i)
+}
+
+// Section header i: this and the two like it are a line each, which names the definition of one question.
+#[tactic(auto, unfolding(crate::specs::Contents::section_in))]
+pub fn section_in(file: &ElfBytes, i: usize) -> Result<SectionHeader, Fault>
+    ensures { result ≡ section_in file.now.bytes.now file.now.elf i }
+{
+    header_in(file, file.elf.sections, i)
+}
+
+// Its extent.
+#[tactic(auto, unfolding(crate::specs::Contents::extent_in))]
+pub fn extent_in(file: &ElfBytes, i: usize) -> Result<Extent, Fault>
+    ensures { result ≡ extent_in file.now.bytes.now file.now.elf i }
+{
+    header_in::<Extent>(file, file.elf.sections, i)
+}
+
+#[tactic(auto, unfolding(crate::specs::Contents::section_of))]
+pub fn section_at(d: &[u8], i: usize) -> Result<SectionHeader, Fault>
     ensures { result ≡ section_of d.now i }
 {
-    let o = elf_bytes::open(d);
-    match o {
-        Opened::Refused(f) => GotSectionHeader::Refused(f),
-        Opened::Is(elf) => section_in(elf, d, i),
-    }
+    section_in(&ElfBytes::open(d)?, i)
 }
 
 // Program header i, likewise.
-pub fn segment_in(elf: Elf, d: &[u8], i: usize) -> GotProgramHeader
-    requires { Whole d.now elf }
-    ensures { result ≡ segment_in d.now elf i }
+#[tactic(auto, unfolding(crate::specs::Contents::segment_in))]
+pub fn segment_in(file: &ElfBytes, i: usize) -> Result<ProgramHeader, Fault>
+    ensures { result ≡ segment_in file.now.bytes.now file.now.elf i }
 {
-    let segments = elf.segments;
-    let class = elf.class;
-    let order = elf.order;
-    match segments {
-        Table::Absent => GotProgramHeader::Refused(Fault { number: 5 }),
-        Table::At(r) => {
-            let from = r.from;
-            let to = r.to;
-            segment::entry(class, order, &d[from..to], i)
-        }
-    }
+    header_in(file, file.elf.segments, i)
 }
 
-pub fn segment_at(d: &[u8], i: usize) -> GotProgramHeader
+#[tactic(auto, unfolding(crate::specs::Contents::segment_of))]
+pub fn segment_at(d: &[u8], i: usize) -> Result<ProgramHeader, Fault>
     ensures { result ≡ segment_of d.now i }
 {
-    let o = elf_bytes::open(d);
-    match o {
-        Opened::Refused(f) => GotProgramHeader::Refused(f),
-        Opened::Is(elf) => segment_in(elf, d, i),
-    }
+    segment_in(&ElfBytes::open(d)?, i)
 }
+
+// ---- bytes
 
 // The bytes of a section: type 8 has none.
 #[tactic(auto, unfolding(crate::specs::Contents::data_of))]
-pub fn section_data(d: &[u8], kind: u32, offset: usize, size: usize) -> GotRange
+pub fn section_data(d: &[u8], kind: u32, offset: usize, size: usize) -> Result<Range, Fault>
     ensures { result ≡ data_of (length d.now) kind offset size }
 {
     if kind == 8 {
-        return GotRange::Is(Range { from: 0, to: 0 });
+        return Ok(Range { from: 0, to: 0 });
     }
     parse::range_at(d.len(), offset, size)
 }
 
 // The bytes of a section whose type must be the one wanted.
-fn typed_data(d: &[u8], want: u32, kind: u32, offset: usize, size: usize) -> GotRange
+#[tactic(auto, unfolding(crate::specs::Contents::typed_of))]
+fn typed_data(d: &[u8], want: u32, kind: u32, offset: usize, size: usize) -> Result<Range, Fault>
     ensures { result ≡ typed_of (length d.now) want kind offset size }
 {
-    if kind == want {
-        return section_data(d, kind, offset, size);
+    if kind != want {
+        return Err(Fault::BadSectionType);
     }
-    GotRange::Refused(Fault { number: 8 })
+    section_data(d, kind, offset, size)
 }
 
-pub fn strings_data(d: &[u8], kind: u32, offset: usize, size: usize) -> GotRange
+// Three questions of document 01, each under its name and with its own number in its promise.
+pub fn strings_data(d: &[u8], kind: u32, offset: usize, size: usize) -> Result<Range, Fault>
     ensures { result ≡ typed_of (length d.now) 3 kind offset size }
 {
     typed_data(d, 3, kind, offset, size)
 }
 
-pub fn rels_data(d: &[u8], kind: u32, offset: usize, size: usize) -> GotRange
+pub fn rels_data(d: &[u8], kind: u32, offset: usize, size: usize) -> Result<Range, Fault>
     ensures { result ≡ typed_of (length d.now) 9 kind offset size }
 {
     typed_data(d, 9, kind, offset, size)
 }
 
-pub fn relas_data(d: &[u8], kind: u32, offset: usize, size: usize) -> GotRange
+pub fn relas_data(d: &[u8], kind: u32, offset: usize, size: usize) -> Result<Range, Fault>
     ensures { result ≡ typed_of (length d.now) 4 kind offset size }
 {
     typed_data(d, 4, kind, offset, size)
 }
 
 // The bytes of a segment that stand in the file.
-pub fn segment_data(d: &[u8], offset: usize, filesz: usize) -> GotRange
+pub fn segment_data(d: &[u8], offset: usize, filesz: usize) -> Result<Range, Fault>
     ensures { result ≡ range_at (length d.now) offset filesz }
 {
     parse::range_at(d.len(), offset, filesz)
@@ -144,119 +153,76 @@ pub fn dynamic_in(
     offset: usize,
     size: usize,
     entsize: usize,
-) -> GotRange
+) -> Result<Range, Fault>
     ensures { result ≡ dynamic_in class (length d.now) kind offset size entsize }
 {
-    if kind == 6 {
-        if entsize == dynamic::size_of(class) {
-            return section_data(d, kind, offset, size);
-        }
-        return GotRange::Refused(Fault { number: 7 });
+    if kind != 6 {
+        return Err(Fault::BadSectionType);
     }
-    GotRange::Refused(Fault { number: 8 })
+    if entsize != Dyn::size_of(class) {
+        return Err(Fault::BadEntrySize);
+    }
+    section_data(d, kind, offset, size)
 }
 
-pub fn dynamic_data(d: &[u8], kind: u32, offset: usize, size: usize, entsize: usize) -> GotRange
+#[tactic(auto, unfolding(crate::specs::Contents::dynamic_of))]
+pub fn dynamic_data(
+    d: &[u8],
+    kind: u32,
+    offset: usize,
+    size: usize,
+    entsize: usize,
+) -> Result<Range, Fault>
     ensures { result ≡ dynamic_of d.now kind offset size entsize }
 {
-    let o = elf_bytes::open(d);
-    match o {
-        Opened::Refused(f) => GotRange::Refused(f),
-        Opened::Is(elf) => {
-            let class = elf.class;
-            dynamic_in(class, d, kind, offset, size, entsize)
-        }
-    }
+    let elf = elf_bytes::open(d)?;
+    dynamic_in(elf.class, d, kind, offset, size, entsize)
 }
+
+// ---- symbols
 
 // As symbols, with the extent of the section that holds their strings: the entry size, the symbols' bytes, the strings' bytes.
+#[tactic(auto, unfolding(crate::specs::Contents::symbols_with))]
 fn symbols_with(
     class: Class,
-    d: &[u8],
-    offset: usize,
-    size: usize,
-    entsize: usize,
+    len: usize,
+    asked: Asked,
     strings: Extent,
-) -> GotSymbols
-    ensures { result ≡ symbols_with class (length d.now) offset size entsize strings }
+) -> Result<SymbolTable, Fault>
+    ensures { result ≡ symbols_with class len asked strings }
 {
-    if entsize == symbol::size_of(class) {
-        let from = strings.offset as usize;
-        let n = strings.size as usize;
-        let f = endian::range_fault(d.len(), offset, size);
-        if f.number == 0 {
-            let g = endian::range_fault(d.len(), from, n);
-            if g.number == 0 {
-                return GotSymbols::Is(Symbols::At(SymbolTable {
-                    symbols: Range {
-                        from: offset,
-                        to: offset + size,
-                    },
-                    strings: Range {
-                        from: from,
-                        to: from + n,
-                    },
-                }));
-            }
-            return GotSymbols::Refused(g);
-        }
-        return GotSymbols::Refused(f);
+    if asked.entsize != Symbol::size_of(class) {
+        return Err(Fault::BadEntrySize);
     }
-    GotSymbols::Refused(Fault { number: 7 })
+    let symbols = parse::range_at(len, asked.offset, asked.size)?;
+    let strings = parse::range_at(len, strings.offset as usize, strings.size as usize)?;
+    Ok(SymbolTable { symbols, strings })
 }
 
-// The linked section's header, entry `link` of the section table t, comes first, as it does in the Rust.
-pub fn symbols_at(
-    class: Class,
-    order: Order,
-    t: &[u8],
+// The linked section's header comes first, as it does in the Rust.
+#[tactic(auto, unfolding(crate::specs::Contents::symbols_in))]
+pub fn symbols_in(file: &ElfBytes, asked: Asked) -> Result<SymbolTable, Fault>
+    ensures { result ≡ symbols_in file.now.bytes.now file.now.elf asked }
+{
+    let strings = extent_in(file, asked.link)?;
+    symbols_with(file.elf.class, file.bytes.len(), asked, strings)
+}
+
+#[tactic(auto, unfolding(crate::specs::Contents::symbols_of))]
+pub fn symbols_data(
     d: &[u8],
     offset: usize,
     size: usize,
     link: usize,
     entsize: usize,
-) -> GotSymbols
-    ensures { result ≡ symbols_at class order t.now (length d.now) offset size link entsize }
-{
-    let f = section::fault_in(class, t.len(), link);
-    if f.number == 0 {
-        let at = link * section::size_of(class);
-        let strings = section::extent_in(class, order, t, at);
-        return symbols_with(class, d, offset, size, entsize, strings);
-    }
-    GotSymbols::Refused(f)
-}
-
-pub fn symbols_in(
-    elf: Elf,
-    d: &[u8],
-    offset: usize,
-    size: usize,
-    link: usize,
-    entsize: usize,
-) -> GotSymbols
-    requires { Whole d.now elf }
-    ensures { result ≡ symbols_in d.now elf offset size link entsize }
-{
-    let sections = elf.sections;
-    let class = elf.class;
-    let order = elf.order;
-    match sections {
-        Table::Absent => GotSymbols::Refused(Fault { number: 5 }),
-        Table::At(r) => {
-            let from = r.from;
-            let to = r.to;
-            symbols_at(class, order, &d[from..to], d, offset, size, link, entsize)
-        }
-    }
-}
-
-pub fn symbols_data(d: &[u8], offset: usize, size: usize, link: usize, entsize: usize) -> GotSymbols
+) -> Result<SymbolTable, Fault>
     ensures { result ≡ symbols_of d.now offset size link entsize }
 {
-    let o = elf_bytes::open(d);
-    match o {
-        Opened::Refused(f) => GotSymbols::Refused(f),
-        Opened::Is(elf) => symbols_in(elf, d, offset, size, link, entsize),
-    }
+    let asked = Asked {
+        offset,
+        size,
+        link,
+        entsize,
+    };
+    symbols_in(&ElfBytes::open(d)?, asked)
 }

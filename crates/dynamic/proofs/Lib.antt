@@ -1,4 +1,3 @@
 -- The crate's laws, a file each.
 -- Assumes nothing.
-pub mod Same
 pub mod Filled

@@ -3,3 +3,4 @@
 pub mod Number
 pub mod Range
 pub mod Place
+pub mod Said

@@ -2,7 +2,6 @@
 -- number_at e w s o   the number of the w bytes of s at o, in the order e
 -- signed w n         the number that n stands for in w bytes of two's complement
 -- bytes_of e w n      the w bytes of n, in the order e
--- swapped w n        n with its w bytes in the reverse order
 -- Assumes nothing.
 use Rattle.std.specs.Prelude.{ℕ, zero, suc, ◌+◌, ◌*◌, ◌^◌, ◌/◌, ◌%◌, List, [], ◌∷◌, get_or, ltb, cond, ℤ, pos, ◌-ℤ◌}
 use Rattle.endian.specs.declared.Order.{Order}
@@ -35,13 +34,3 @@ signed w n = cond (ltb (2 * n) (256 ^ w)) (pos n) (pos n -ℤ pos (256 ^ w))
 unfoldable pub bytes_of : Order → ℕ → ℕ → List ℕ
 bytes_of e zero n = []
 bytes_of e (suc w) n = front e 1 w n ∷ bytes_of e w (back e 1 w n)
-
--- n with its w bytes in the reverse order
-unfoldable pub swapped : ℕ → ℕ → ℕ
-swapped zero n = 0
-swapped (suc w) n = 256 ^ w * (n % 256) + swapped w (n / 256)
-
--- what w bytes say in the order e, of what they say lowest first
-abbrev pub ordered : Order → ℕ → ℕ → ℕ
-ordered Little w n = n
-ordered Big w n = swapped w n

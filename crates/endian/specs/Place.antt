@@ -1,5 +1,6 @@
 -- Places of fields, and the sizes of the ABI's fixed-size entries.
 -- Place, place o w      an offset in an entry and a width
+-- word c                the bytes of a number as wide as the class
 -- field_at e p s o       the number at the place p of the entry that starts at o
 -- Entry, size_of         the kinds of entries and their sizes in both classes (document 01, section 2)
 -- Fills a ps n          the places ps follow one another without a gap, from a up to n
@@ -19,6 +20,11 @@ place o w = record { at = o; wide = w }
 
 abbrev pub field_at : Order → Place → List ℕ → ℕ → ℕ
 field_at e p s o = number_at e p.wide s (o + p.at)
+
+-- the bytes of a number that is as wide as the class
+abbrev pub word : Class → ℕ
+word Elf32 = 4
+word Elf64 = 8
 
 pub data Entry : Type 0 where
   file_header : Entry

@@ -1,5 +1,4 @@
 -- The crate's laws, a file each.
 -- Assumes nothing.
-pub mod Same
 pub mod Filled
 pub mod Alike

@@ -6,7 +6,8 @@ use mathlib.Core.Path.{◌≡◌, refl, sym, ◌∙◌}
 use mathlib.Core.List.{List, [], ◌∷◌, ◌++◌}
 use lib.ListN.{replicate}
 use Rattle.endian.specs.Number.{number_at}
-use Rattle.endian.specs.Range.{fault_at, no_fault}
+use Rattle.std.specs.Prelude.{Some, Ok}
+use Rattle.endian.specs.Range.{range_fault}
 use Rattle.endian.specs.declared.Order.TheVariants.{Little}
 use Rattle.endian.specs.declared.Class.TheVariants.{Elf32}
 use Rattle.parse.specs.Entry.{count_of, entry_fault}
@@ -15,9 +16,8 @@ use Rattle.symbol.specs.Layout.{symbol_at}
 use Rattle.string_table.specs.Text.{end_of, text_fault, text_at, same_bytes}
 use Rattle.hash.specs.Sysv.{sysv_step, sysv_from, sysv_hash}
 use Rattle.hash.specs.Table.{hash_fault}
-use Rattle.hash.specs.Find.{name_of, next_of, turn_of, walk_of, find_of}
+use Rattle.hash.specs.Find.{name_of, next_of, turn_of, walk_by, find_of}
 use Rattle.hash.specs.Formed.{link_at, bucket_of, Listed, WellFormed}
-use Rattle.hash.specs.declared.Lookup.TheVariants.{At}
 
 abbrev table : List ℕ
 table = 1 ∷ 0 ∷ 0 ∷ 0 ∷ 2 ∷ 0 ∷ 0 ∷ 0 ∷ 1 ∷ replicate 11 0
@@ -42,7 +42,7 @@ first : (k : ℕ) → link_at Little table 0 k ≡ 1 → k ≡ 0
 first zero p = refl
 first (suc k) p = let q = ended k in absurd (omega arith)
 
-named : (i : ℕ) → i ≡ 1 → text_fault strings (name_of Elf32 Little symbols i) ≡ no_fault
+named : (i : ℕ) → i ≡ 1 → text_fault strings (name_of Elf32 Little symbols i) ≡ Ok tt
 unfolding text_fault end_of first_from symbol_at number_at
 named i p = rw p
 
@@ -51,7 +51,7 @@ unfolding link_at text_at end_of first_from symbol_at number_at sysv_hash sysv_f
 placed i p = rw p
 
 pub sample_formed : WellFormed Elf32 Little table symbols strings
-unfolding hash_fault fault_at number_at count_of
+unfolding hash_fault range_fault number_at count_of
 sample_formed = record {
   held = omega arith;
   readable = refl;
@@ -69,6 +69,6 @@ sample_formed = record {
 }
 
 -- and its one name is found
-pub sample_found : find_of Elf32 Little table symbols strings (97 ∷ []) ≡ At 1
-unfolding find_of walk_of turn_of next_of hash_fault fault_at entry_fault text_fault text_at end_of first_from same_bytes symbol_at number_at sysv_hash sysv_from sysv_step
+pub sample_found : find_of Elf32 Little table symbols strings (97 ∷ []) ≡ Ok (Some 1)
+unfolding find_of walk_by turn_of next_of hash_fault range_fault entry_fault text_fault text_at end_of first_from same_bytes symbol_at number_at sysv_hash sysv_from sysv_step
 sample_found = refl

@@ -1,3 +1,5 @@
+-- The crate's definitions, a file each.
+-- Assumes nothing.
 pub mod Sysv
 pub mod Table
 pub mod Find

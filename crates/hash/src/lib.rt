@@ -5,61 +5,43 @@
 // noted if the name is long, so a chain that returns to itself compares no more than one that does not.
 #![tactic(auto)]
 
-ghost use Rattle.std.specs.Prelude.{◌≡◌, ◌+◌, ◌*◌, ◌<◌, ◌≤◌, true, length};
-ghost use Rattle.endian.specs.Range.{answer, no_fault};
+ghost use Rattle.std.specs.Prelude.{◌≡◌, ℕ, ◌+◌, ◌*◌, ◌≤◌, true, length, Result};
+ghost use Rattle.endian.specs.declared.fault.Fault.{Fault};
+ghost use Rattle.endian.specs.Range.{answer};
 ghost use Rattle.endian.specs.Place.{size_of, symbol};
-ghost use Rattle.parse.specs.declared.Found.{Found};
 ghost use Rattle.parse.specs.Entry.{entry_fault, count_of};
 ghost use Rattle.string_table.specs.Noted.{Notes};
+ghost use Rattle.std.proofs.Props.{props};
+ghost use Rattle.hash.specs.declared.Turn.{Turn};
 ghost use Rattle.hash.specs.Sysv.{sysv_step, sysv_hash};
-ghost use Rattle.hash.specs.Table.{hash_fault, head_of};
-ghost use Rattle.hash.specs.Find.{symbol_count, next_of, turn_of, place_of, walk_of, find_of, start_of, Ready};
+ghost use Rattle.hash.specs.Table.{bucket_count, chain_count, hash_fault, head_of};
+ghost use Rattle.hash.specs.Find.{symbol_count, next_of, turn_of, place_of, walk_by, find_of};
 
-use endian::{Class, Fault, Order};
-use parse::Found;
-use string_table::Compared;
+use endian::{Class, Fault, Number, Order};
+use parse::ParseAt;
+use string_table::{Name, Strings};
+use symbol::Symbol;
 
 // The two counts at the start of a table.
-#[derive(Clone, Copy)]
+#[derive(Clone, Copy, Debug, PartialEq, Eq)]
 pub struct Head {
     pub buckets: u32,
     pub chains: u32,
 }
 
-#[derive(Clone, Copy)]
-pub enum GotHead {
-    Is(Head),
-    Refused(Fault),
-}
-
-// What a lookup answers: the number of a symbol with the name, that there is none, or what could not be read.
-#[derive(Clone, Copy)]
-pub enum Lookup {
-    At(usize),
-    Nothing,
-    Refused(Fault),
-}
-
-// Where a name stands, or what could not be read.
-#[derive(Clone, Copy)]
-enum GotPlace {
-    Is(usize),
-    Refused(Fault),
-}
-
-// What a turn of a lookup answers: the next index, that the symbol has the name, or what could not be read.
-#[derive(Clone, Copy)]
+// What a turn of a lookup finds: that the symbol has the name, or the next index.
+#[derive(Clone, Copy, Debug, PartialEq, Eq)]
 enum Turn {
-    Next(usize),
     Same,
-    Fails(Fault),
+    Next(usize),
 }
 
-// One byte. The sum is made in 64 bits, and its low 32 are kept.
+// One byte, in 32 bits.
+#[tactic(auto, unfolding(crate::specs::Sysv::sysv_step))]
 fn hash_step(h: u32, b: u8) -> u32
     ensures { result ≡ sysv_step h b }
 {
-    let n = ((16 * (h as u64) + (b as u64)) % 4294967296) as u32;
+    let n = h.wrapping_mul(16).wrapping_add(u32::from(b));
     n ^ ((n >> 24) & 0xf0)
 }
 
@@ -67,35 +49,29 @@ fn hash_step(h: u32, b: u8) -> u32
 pub fn sysv_hash(name: &[u8]) -> u32
     ensures { result ≡ sysv_hash name.now }
 {
-    let mut h: u32 = 0;
-    let mut i = 0;
-    while i < name.len() {
-        h = hash_step(h, name[i]);
-        i += 1;
-    }
-    h % 268435456
+    name.iter().fold(0, |h, b| hash_step(h, *b)) % 0x1000_0000
 }
 
 // The header of a table: the counts, and both tables, must lie in the data.
-pub fn header(order: Order, h: &[u8]) -> GotHead
-    ensures { result ≡ answer (hash_fault order h.now) (GotHead.Is (head_of order h.now)) GotHead.Refused }
+#[tactic(auto, unfolding(crate::specs::Table::head_of), using(crate::proofs::Laws::head_short, crate::proofs::Laws::head_fine, crate::proofs::Laws::head_out))]
+pub fn header(order: Order, h: &[u8]) -> Result<Head, Fault>
+    ensures { result ≡ answer (hash_fault order h.now) (head_of order h.now) }
 {
-    let len = h.len();
-    if len < 8 {
-        return GotHead::Refused(Fault { number: 11 });
+    if h.len() < 8 {
+        return Err(Fault::OutsideData);
     }
-    let b = endian::u32_in(order, h, 0);
-    let c = endian::u32_in(order, h, 4);
-    if 8 + 4 * (b as usize) + 4 * (c as usize) <= len {
-        return GotHead::Is(Head {
-            buckets: b,
-            chains: c,
-        });
+    let head = Head {
+        buckets: u32::read(order, h, 0),
+        chains: u32::read(order, h, 4),
+    };
+    if 8 + 4 * (head.buckets as usize) + 4 * (head.chains as usize) <= h.len() {
+        return Ok(head);
     }
-    GotHead::Refused(Fault { number: 11 })
+    Err(Fault::OutsideData)
 }
 
 // How many whole symbols len bytes hold. Each class divides by a constant of its own, so no division is made.
+#[tactic(auto, unfolding(parse::specs::Entry::count_of))]
 fn symbol_count(class: Class, len: usize) -> usize
     ensures { result ≡ count_of (size_of symbol class) len }
 {
@@ -105,254 +81,180 @@ fn symbol_count(class: Class, len: usize) -> usize
     }
 }
 
-// The fault of symbol i. The count of whole entries tells in one comparison that there is none.
-fn symbol_fault(class: Class, len: usize, whole: usize, i: usize) -> Fault
-    requires { whole ≡ count_of (size_of symbol class) len }
-    ensures { result ≡ entry_fault (size_of symbol class) len i }
-{
-    if i < whole {
-        return Fault { number: 0 };
-    }
-    let size = symbol::size_of(class);
-    parse::entry_fault(size, len, i)
-}
-
-// The index behind i in its chain.
-fn next(order: Order, h: &[u8], d: Head, i: usize) -> Turn
-    requires fine { hash_fault order h.now ≡ no_fault }
-    requires head { d ≡ head_of order h.now }
-    ensures { result ≡ next_of order h.now i }
-{
-    let b = d.buckets as usize;
-    let c = d.chains as usize;
-    if i < c {
-        let j = endian::u32_in(order, h, 8 + 4 * b + 4 * i);
-        return Turn::Next(j as usize);
-    }
-    let f = parse::entry_fault(4, 4 * c, i);
-    Turn::Fails(f)
-}
-
-// Where in the string table the name of symbol i stands.
-fn name_at(class: Class, order: Order, syms: &[u8], whole: usize, i: usize) -> GotPlace
-    requires { whole ≡ count_of (size_of symbol class) (length syms.now) }
-    ensures { result ≡ place_of class order syms.now i }
-{
-    let f = symbol_fault(class, syms.len(), whole, i);
-    if f.number != 0 {
-        return GotPlace::Refused(f);
-    }
-    let size = symbol::size_of(class);
-    let o = endian::u32_in(order, syms, i * size);
-    GotPlace::Is(o as usize)
-}
-
-// One turn, at symbol i.
-fn one_turn(
+// A lookup of one name: the table with its header, the symbols and how many whole ones there are, the strings, and the name.
+#[derive(Clone, Copy)]
+struct Search<'a> {
     class: Class,
     order: Order,
-    h: &[u8],
-    d: Head,
-    syms: &[u8],
+    table: &'a [u8],
+    head: Head,
+    symbols: &'a [u8],
     whole: usize,
-    strs: &[u8],
-    last: Found,
-    name: &[u8],
-    clean: bool,
-    i: usize,
-) -> Turn
-    requires { Ready class order h.now d syms.now whole strs.now last name.now clean }
-    ensures { result ≡ turn_of class order h.now syms.now strs.now name.now i }
-{
-    let p = name_at(class, order, syms, whole, i);
-    match p {
-        GotPlace::Is(o) => {
-            let m = string_table::compare(strs, last, o, name, clean);
-            match m {
-                Compared::Same => Turn::Same,
-                Compared::Other => next(order, h, d, i),
-                Compared::Refused(g) => Turn::Fails(g),
-            }
+    strings: Strings<'a>,
+    name: Name<'a>,
+    ghost buckets_read: { head.buckets ≡ bucket_count order table.now },
+    ghost chains_read: { head.chains ≡ chain_count order table.now },
+    ghost room: { 8 + 4 * head.buckets + 4 * head.chains ≤ length table.now },
+    ghost counted: { whole ≡ symbol_count class symbols.now },
+}
+
+impl<'a> Search<'a> {
+    // Whether symbol i is there. The count of whole entries tells in one comparison that it is.
+    #[tactic(auto, using(parse::proofs::Laws::readable, crate::proofs::Laws::size_room))]
+    fn symbol_fault(&self, i: usize) -> Result<(), Fault>
+        ensures { result ≡ entry_fault (size_of symbol self.now.class) (length self.now.symbols.now) i }
+    {
+        if i < self.whole {
+            return Ok(());
         }
-        GotPlace::Refused(f) => Turn::Fails(f),
+        parse::fault_in::<Symbol>(self.class, self.symbols.len(), i)
+    }
+
+    // Whether chain entry i is there.
+    #[tactic(auto, using(crate::proofs::Laws::entry_here))]
+    fn chain_fault(&self, i: usize) -> Result<(), Fault>
+        ensures { result ≡ entry_fault 4 (4 * chain_count self.now.order self.now.table.now) i }
+    {
+        let chains = self.head.chains as usize;
+        if i < chains {
+            return Ok(());
+        }
+        parse::entry_fault(4, 4 * chains, i)
+    }
+
+    // Where in the string table the name of symbol i stands.
+    #[tactic(auto, unfolding(crate::specs::Find::place_of), using(parse::proofs::Laws::whole, crate::proofs::Laws::size_room, crate::proofs::Laws::name_read))]
+    fn name_at(&self, i: usize) -> Result<usize, Fault>
+        ensures { result ≡ place_of self.now.class self.now.order self.now.symbols.now i }
+    {
+        self.symbol_fault(i)?;
+        Ok(u32::read(self.order, self.symbols, i * Symbol::size_of(self.class)) as usize)
+    }
+
+    // The index behind i in its chain.
+    #[tactic(auto, unfolding(crate::specs::Find::next_of), using(crate::proofs::Laws::entry_below))]
+    fn next(&self, i: usize) -> Result<Turn, Fault>
+        ensures { result ≡ next_of self.now.order self.now.table.now i }
+    {
+        self.chain_fault(i)?;
+        let place = 8 + 4 * (self.head.buckets as usize) + 4 * i;
+        Ok(Turn::Next(u32::read(self.order, self.table, place) as usize))
     }
 }
 
-// Along the chain of the name's bucket.
-fn plain_walk(
-    class: Class,
-    order: Order,
-    h: &[u8],
-    d: Head,
-    syms: &[u8],
-    whole: usize,
-    strs: &[u8],
-    last: Found,
-    name: &[u8],
-    clean: bool,
-    start: usize,
-) -> Lookup
-    requires { Ready class order h.now d syms.now whole strs.now last name.now clean }
-    ensures { result ≡ walk_of class order h.now syms.now strs.now name.now d.chains start }
+// The turns of a walk along a chain. What one finds at a symbol depends on the symbol only, and not on the turns before.
+trait Turning {
+    ghost at: { Self → ℕ → Result Turn Fault };
+
+    fn turn(&mut self, i: usize) -> Result<Turn, Fault>
+        ensures found { result ≡ at self.old i }
+        ensures kept { at self.new ≡ at self.old };
+}
+
+// Of any name: the symbol, its name, the comparison, the chain entry.
+impl<'a> Turning for Search<'a> {
+    ghost at = { λ s i. turn_of s.class s.order s.table.now s.symbols.now s.strings.bytes.now s.name.bytes.now i };
+
+    #[tactic(auto, unfolding(crate::specs::Find::turn_of, crate::specs::Find::place_of))]
+    fn turn(&mut self, i: usize) -> Result<Turn, Fault> {
+        let o = self.name_at(i)?;
+        if self.strings.compare(o, &self.name)? {
+            return Ok(Turn::Same);
+        }
+        self.next(i)
+    }
+}
+
+// The same of a clean name, with notes.
+#[derive(Drop)]
+struct Noting<'a> {
+    search: Search<'a>,
+    marks: [u8; 1024],
+    ghost clean: { search.name.clean ≡ true },
+    ghost noted: { Notes search.strings.bytes.now search.name.bytes.now marks } by { Prim.hlevel props },
+}
+
+impl<'a> Noting<'a> {
+    fn new(search: Search<'a>) -> Noting<'a>
+        requires { search.name.clean ≡ true }
+        ensures { result.search ≡ search.entry }
+    {
+        Noting {
+            search,
+            // fixed, since there is no heap
+            marks: [0; 1024],
+        }
+    }
+}
+
+impl<'a> Turning for Noting<'a> {
+    ghost at = { λ s. ⟦<Search<'a> as Turning>⟧.at s.search };
+
+    #[tactic(auto, unfolding(crate::specs::Find::turn_of, crate::specs::Find::place_of), using(string_table::proofs::Notes::noted_true))]
+    fn turn(&mut self, i: usize) -> Result<Turn, Fault> {
+        let search = &self.search;
+        let o = search.name_at(i)?;
+        search.strings.fault(o)?;
+        let same = search
+            .strings
+            .same_noted(o, search.name.bytes, &mut self.marks);
+        if same {
+            return Ok(Turn::Same);
+        }
+        search.next(i)
+    }
+}
+
+// Along the chain of the name's bucket, at most so many turns. One loop for all names, made into one of its own for each kind of
+// turns: with a test in each turn it costs a short name a tenth more instructions or more.
+#[tactic(auto, using(crate::proofs::Laws::walk_ended, crate::proofs::Laws::walk_over, crate::proofs::Laws::walk_turn))]
+fn walk<T: Turning + Drop>(mut turns: T, most: u32, start: usize) -> Result<Option<usize>, Fault>
+    ensures { result ≡ walk_by (T.at turns) most start }
 {
     let mut i = start;
-    let mut left = d.chains;
-    while left > 0 {
+    for _taken in 0..most {
         if i == 0 {
-            return Lookup::Nothing;
+            return Ok(None);
         }
-        let t = one_turn(class, order, h, d, syms, whole, strs, last, name, clean, i);
-        match t {
-            Turn::Next(j) => {
-                i = j;
-            }
-            Turn::Same => {
-                return Lookup::At(i);
-            }
-            Turn::Fails(f) => {
-                return Lookup::Refused(f);
-            }
+        match turns.turn(i)? {
+            Turn::Same => return Ok(Some(i)),
+            Turn::Next(j) => i = j,
         }
-        left -= 1;
     }
-    Lookup::Nothing
+    Ok(None)
 }
 
-// The same of a long name, in a table whose last zero byte stands at `last`.
-fn noted_turn(
+// The lookup of a name in the table h, over the symbols and the strings of a file. A name that holds a zero byte is nobody's, and a
+// short one is compared in a few turns: neither needs notes.
+#[tactic(auto, unfolding(crate::specs::Find::find_of, crate::specs::Table::head_of), using(crate::proofs::Laws::head_told, crate::proofs::Laws::head_room))]
+pub fn find(
     class: Class,
     order: Order,
     h: &[u8],
-    d: Head,
     syms: &[u8],
     strs: &[u8],
-    last: usize,
     name: &[u8],
-    marks: &mut [u8],
-    i: usize,
-) -> Turn
-    requires ready { Ready class order h.now d syms.now (symbol_count class syms.now) strs.now (Found.At last) name.now true }
-    requires noted_before { Notes strs.now name.now marks.old }
-    ensures answer { result ≡ turn_of class order h.now syms.now strs.now name.now i }
-    ensures noted_after { Notes strs.now name.now marks.new }
-{
-    let whole = symbol_count(class, syms.len());
-    let p = name_at(class, order, syms, whole, i);
-    match p {
-        GotPlace::Is(o) => {
-            let f = string_table::fault_with(Found::At(last), strs.len(), o);
-            if f.number != 0 {
-                return Turn::Fails(f);
-            }
-            if string_table::same_noted(strs, last, o, name, marks) {
-                return Turn::Same;
-            }
-            next(order, h, d, i)
-        }
-        GotPlace::Refused(f) => Turn::Fails(f),
-    }
-}
-
-// Along the chain for a long name. This is a loop of its own: one for all names costs a short one a tenth more instructions or more.
-fn noted_walk(
-    class: Class,
-    order: Order,
-    h: &[u8],
-    d: Head,
-    syms: &[u8],
-    strs: &[u8],
-    last: usize,
-    name: &[u8],
-    start: usize,
-) -> Lookup
-    requires { Ready class order h.now d syms.now (symbol_count class syms.now) strs.now (Found.At last) name.now true }
-    ensures { result ≡ walk_of class order h.now syms.now strs.now name.now d.chains start }
-{
-    let mut marks = [0u8; 1024];
-    let mut i = start;
-    let mut turns = d.chains;
-    while turns > 0 {
-        if i == 0 {
-            return Lookup::Nothing;
-        }
-        let t = noted_turn(class, order, h, d, syms, strs, last, name, &mut marks, i);
-        match t {
-            Turn::Next(j) => {
-                i = j;
-            }
-            Turn::Same => {
-                return Lookup::At(i);
-            }
-            Turn::Fails(f) => {
-                return Lookup::Refused(f);
-            }
-        }
-        turns -= 1;
-    }
-    Lookup::Nothing
-}
-
-// Along the chain. A name that holds a zero byte is nobody's, and a short one is compared in a few turns: neither needs notes.
-fn walk(
-    class: Class,
-    order: Order,
-    h: &[u8],
-    d: Head,
-    syms: &[u8],
-    whole: usize,
-    strs: &[u8],
-    last: Found,
-    name: &[u8],
-    clean: bool,
-    start: usize,
-) -> Lookup
-    requires { Ready class order h.now d syms.now whole strs.now last name.now clean }
-    ensures { result ≡ walk_of class order h.now syms.now strs.now name.now d.chains start }
-{
-    let long = string_table::is_long(name);
-    if clean & long {
-        match last {
-            Found::At(l) => {
-                return noted_walk(class, order, h, d, syms, strs, l, name, start);
-            }
-            Found::Nothing => {}
-        }
-    }
-    plain_walk(
-        class, order, h, d, syms, whole, strs, last, name, clean, start,
-    )
-}
-
-// The lookup of a name in the table h, over the symbols and the strings of a file.
-pub fn find(class: Class, order: Order, h: &[u8], syms: &[u8], strs: &[u8], name: &[u8]) -> Lookup
+) -> Result<Option<usize>, Fault>
     ensures { result ≡ find_of class order h.now syms.now strs.now name.now }
 {
-    let g = header(order, h);
-    match g {
-        GotHead::Is(d) => {
-            let b = d.buckets;
-            if b == 0 {
-                return Lookup::Nothing;
-            }
-            let at = sysv_hash(name) % b;
-            let start = endian::u32_in(order, h, 8 + 4 * (at as usize));
-            let whole = symbol_count(class, syms.len());
-            let last = string_table::last_zero(strs);
-            let clean = string_table::is_clean(name);
-            walk(
-                class,
-                order,
-                h,
-                d,
-                syms,
-                whole,
-                strs,
-                last,
-                name,
-                clean,
-                start as usize,
-            )
-        }
-        GotHead::Refused(f) => Lookup::Refused(f),
+    let head = header(order, h)?;
+    if head.buckets == 0 {
+        return Ok(None);
     }
+    let at = sysv_hash(name) % head.buckets;
+    let start = u32::read(order, h, 8 + 4 * (at as usize)) as usize;
+    let search = Search {
+        class,
+        order,
+        table: h,
+        head,
+        symbols: syms,
+        whole: symbol_count(class, syms.len()),
+        strings: Strings::new(strs),
+        name: Name::new(name),
+    };
+    if search.name.clean & string_table::is_long(name) {
+        return walk(Noting::new(search), head.chains, start);
+    }
+    walk(search, head.chains, start)
 }

@@ -1,15 +1,15 @@
--- The laws of carrying out: what an answer of 0 says, and the parts of one record as the code leaves them.
+-- The laws of carrying out: what it says that nothing is refused, and the parts of one record as the code leaves them.
 -- Assumes nothing.
 use Prim.Native.Nat.{ℕ, ◌+◌, ◌-◌, ◌*◌, ◌/◌, ◌≤◌, ◌<◌}
 use native.Mathlib.Numerals.{add-one}
 use native.Mathlib.Omega.{arith}
-use mathlib.Core.Path.{◌≡◌, refl, sym, ap, ap₂, ◌∙◌}
-use mathlib.Core.Bool.{Bool, true, false, not, ◌&&◌, cond}
+use mathlib.Core.Path.{◌≡◌, sym, ap, ap₂, ◌∙◌}
+use mathlib.Core.Bool.{false, not}
 use mathlib.Core.List.{List}
 use lib.ListN.{length, take, drop, replicate, length-replicate, length-drop}
 use lib.Seq.{length-take-le}
-use lib.Dec.{leb, ltb, eqb}
-use borrow.Author.Tests.{leb-true, le-leb, ltb-false, le-ltb, eqb-true, eq-eqb, not-false}
+use lib.Dec.{ltb, eqb}
+use borrow.Author.Tests.{le-leb, ltb-false, le-ltb, eqb-true, eq-eqb, not-false}
 use borrow.Rule.Slice.PartMut.{put_mid}
 use Rattle.memory.specs.Run.{put}
 use Rattle.memory.proofs.Put.{mid_put, length_put, put_gaps}
@@ -17,8 +17,12 @@ use Rattle.records.specs.Record.{record_at}
 use Rattle.records.specs.declared.Record.{Record}
 use Rattle.load_rules.specs.Rules.{any_below}
 use Rattle.load_rules.specs.declared.Window.{Window}
-use Rattle.load_rules.proofs.Tests.{and_true, nand_false, none_at, none_of}
-use Rattle.load_image.specs.Carry.{astray, beyond, wrong, wrong_at, carry_number, carried, carried_below, Fitted}
+use Rattle.std.proofs.lemmas.Bool.Decides.{nat_tests}
+use Rattle.load_rules.proofs.Tests.{none_at, none_of}
+use Rattle.std.specs.Prelude.{Ok}
+use Rattle.load_plan.specs.declared.refusal.Refusal.TheVariants.{ShortTable, Unfit, Outside}
+use Rattle.load_plan.proofs.Accept.{pass}
+use Rattle.load_image.specs.Carry.{astray, beyond, passes, verdict_of, carried, carried_below, Fitted}
 use Rattle.load_image.specs.Pieces.{Neat}
 
 -- ---- a table that is not refused
@@ -29,48 +33,36 @@ pub record Sound (w : Window) (flen : ℕ) (t : List ℕ) (n mlen : ℕ) : Type 
   pub fitted : (k : ℕ) → k < n → Fitted w.start w.len flen (record_at t k)
 
 fitted_of : (w : Window) (flen : ℕ) (r : Record) → astray w r ≡ false → beyond flen r ≡ false → Fitted w.start w.len flen r
-fitted_of w flen r h g =
-    let a = leb w.start r.page in
-    let b = leb (r.page - w.start + r.len) w.len in
-    let c = leb w.start r.at in
-    let d = leb (r.at - w.start + r.count) w.len in
-    let p = nand_false (a && b) (c && d) h in
-    let q = and_true a b p.0 in
-    let v = and_true c d p.1 in
-    record {
-      page_low = leb-true _ _ q.0;
-      page_high = leb-true _ _ q.1;
-      at_low = leb-true _ _ v.0;
-      at_high = leb-true _ _ v.1;
-      in_file = leb-true _ _ (not-false (leb (r.from + r.count) flen) g);
-    }
+fitted_of w flen r h g = record {
+  page_low = grind (arith, nat_tests);
+  page_high = grind (arith, nat_tests);
+  at_low = grind (arith, nat_tests);
+  at_high = grind (arith, nat_tests);
+  in_file = grind (arith, nat_tests);
+}
 
 fitted_to : (w : Window) (flen : ℕ) (r : Record) → Fitted w.start w.len flen r → (astray w r ≡ false) × (beyond flen r ≡ false)
 fitted_to w flen r p =
     (rw (le-leb _ _ p.page_low, le-leb _ _ p.page_high, le-leb _ _ p.at_low, le-leb _ _ p.at_high), rw (le-leb _ _ p.in_file))
 
-pass : (b : Bool) (d r : ℕ) → 0 < d → cond b d r ≡ 0 → (b ≡ false) × (r ≡ 0)
-pass true d r p h = absurd (omega arith)
-pass false d r p h = (refl, h)
-
-pub sound : (w : Window) (flen : ℕ) (t : List ℕ) (n mlen : ℕ) → carry_number w flen t n mlen ≡ 0 → Sound w flen t n mlen
-unfolding carry_number wrong_at wrong
+pub sound : (w : Window) (flen : ℕ) (t : List ℕ) (n mlen : ℕ) → verdict_of w flen t n mlen ≡ Ok tt → Sound w flen t n mlen
+unfolding verdict_of passes
 sound w flen t n mlen e =
-    let p1 = pass (ltb (length t / 48) n) 14 _ (omega arith) e in
-    let p2 = pass (not (eqb mlen w.len)) 24 _ (omega arith) p1.1 in
-    let p3 = pass (any_below (wrong_at 24 w flen t) n) 24 _ (omega arith) p2.1 in
-    let p4 = pass (any_below (wrong_at 22 w flen t) n) 22 _ (omega arith) p3.1 in
+    let p1 = pass (ltb (length t / 48) n) ShortTable _ e in
+    let p2 = pass (not (eqb mlen w.len)) Outside _ p1.1 in
+    let p3 = pass (any_below (passes (astray w) t) n) Outside _ p2.1 in
+    let p4 = pass (any_below (passes (beyond flen) t) n) Unfit _ p3.1 in
     record {
       holds = omega (arith, ltb-false (length t / 48) n p1.0);
       memory_is = eqb-true mlen w.len (not-false (eqb mlen w.len) p2.0);
-      fitted = λ k lt. fitted_of w flen (record_at t k) (none_at (wrong_at 24 w flen t) n k p3.0 lt) (none_at (wrong_at 22 w flen t) n k p4.0 lt);
+      fitted = λ k lt. fitted_of w flen (record_at t k) (none_at (passes (astray w) t) n k p3.0 lt) (none_at (passes (beyond flen) t) n k p4.0 lt);
     }
 
-pub carries : (w : Window) (flen : ℕ) (t : List ℕ) (n mlen : ℕ) → Sound w flen t n mlen → carry_number w flen t n mlen ≡ 0
-unfolding carry_number wrong_at wrong
+pub carries : (w : Window) (flen : ℕ) (t : List ℕ) (n mlen : ℕ) → Sound w flen t n mlen → verdict_of w flen t n mlen ≡ Ok tt
+unfolding verdict_of passes
 carries w flen t n mlen s =
-    let a : any_below (wrong_at 24 w flen t) n ≡ false = none_of (wrong_at 24 w flen t) n (λ k lt. (fitted_to w flen (record_at t k) (s.fitted k lt)).0) in
-    let b : any_below (wrong_at 22 w flen t) n ≡ false = none_of (wrong_at 22 w flen t) n (λ k lt. (fitted_to w flen (record_at t k) (s.fitted k lt)).1) in
+    let a : any_below (passes (astray w) t) n ≡ false = none_of (passes (astray w) t) n (λ k lt. (fitted_to w flen (record_at t k) (s.fitted k lt)).0) in
+    let b : any_below (passes (beyond flen) t) n ≡ false = none_of (passes (beyond flen) t) n (λ k lt. (fitted_to w flen (record_at t k) (s.fitted k lt)).1) in
     rw (le-ltb (length t / 48) n (omega (arith, s.holds)), eq-eqb mlen w.len s.memory_is, a, b)
 
 -- ---- one record

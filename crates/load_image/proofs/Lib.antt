@@ -1,3 +1,5 @@
+-- The crate's laws, a file each.
+-- Assumes nothing.
 pub mod Laws
 pub mod Pieces
 pub mod Segments

@@ -17,7 +17,8 @@ use Rattle.memory.proofs.Put.{put_in, put_below, put_above, length_put}
 use Rattle.records.specs.Record.{record_at}
 use Rattle.records.specs.declared.Record.{Record}
 use Rattle.load_rules.specs.Rules.{any_below}
-use Rattle.load_rules.proofs.Tests.{and_true, none_at, found}
+use Rattle.std.proofs.lemmas.Bool.Decides.{nat_tests}
+use Rattle.load_rules.proofs.Tests.{none_at, found}
 use Rattle.load_image.specs.Carry.{carried, carried_below}
 use Rattle.load_image.specs.Pieces.{piece_byte, Neat, Pieces, Same}
 use Rattle.load_image.proofs.Laws.{length_part}
@@ -184,8 +185,7 @@ decide start t n i = go (any_below (covers start t i) n) refl
         ⊎ ((k : ℕ) → k < n → (record_at t k).page ≤ start + i → start + i < (record_at t k).page + (record_at t k).len → ⊥)
     go true e =
         let q = found (covers start t i) n e in
-        let c = and_true (leb (record_at t q.0).page (start + i)) (ltb (start + i) ((record_at t q.0).page + (record_at t q.0).len)) q.2 in
-        inl (q.0, q.1, leb-true _ _ c.0, ltb-true _ _ c.1)
+        inl (q.0, q.1, grind (arith, nat_tests), grind (arith, nat_tests))
     go false e = inr (λ k lt a b. true≢false (sym (yes k a b) ∙ none_at (covers start t i) n k e lt))
       where
         yes : (k : ℕ) → (record_at t k).page ≤ start + i → start + i < (record_at t k).page + (record_at t k).len → covers start t i k ≡ true

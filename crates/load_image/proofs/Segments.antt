@@ -2,19 +2,20 @@
 -- Assumes nothing.
 use Prim.Native.Nat.{ℕ, ◌+◌, ◌-◌, ◌≤◌, ◌<◌}
 use native.Mathlib.Omega.{arith}
-use mathlib.Core.Path.{◌≡◌, refl, sym, ap, ap₂, ◌∙◌}
-use mathlib.Core.Bool.{Bool, true, false, not, ◌&&◌, cond, true≢false}
+use mathlib.Core.Path.{◌≡◌, refl, sym, ap₂, ◌∙◌}
+use mathlib.Core.Bool.{Bool, true, false, ◌&&◌, cond, true≢false}
 use mathlib.Core.List.{List}
 use lib.ListN.{length, get_or}
-use lib.Dec.{leb, ltb, eqb}
-use borrow.Author.Tests.{leb-true, le-leb, ltb-true}
+use lib.Dec.{leb, ltb}
+use borrow.Author.Tests.{leb-true, le-leb}
 use Rattle.segment.specs.declared.ProgramHeader.{ProgramHeader}
 use Rattle.records.specs.Record.{Small}
 use Rattle.load_rules.specs.Rules.{real, unfit, executable, writable, write_exec, holds_entry, first, last, low, record_of, max_file}
 use Rattle.load_rules.specs.Facts.{Placed}
 use Rattle.load_rules.specs.declared.Window.{Window}
-use Rattle.load_rules.proofs.Tests.{and_true, nand_false, none_at, found}
-use Rattle.load_plan.specs.Plan.{seg_at, test, test_at, clash_with, clash_at}
+use Rattle.std.proofs.lemmas.Bool.Decides.{nat_tests}
+use Rattle.load_rules.proofs.Tests.{none_at, found}
+use Rattle.load_plan.specs.Plan.{seg_at, passes, clash_with, clash_at}
 use Rattle.load_plan.specs.Facts.{Accepted}
 use Rattle.load_plan.specs.declared.Job.{Job}
 use Rattle.load_plan.proofs.Order.{placed_at}
@@ -100,18 +101,14 @@ module _ (flen l : ℕ) (w : Window) (s : ProgramHeader) (p : Sits flen l w s) w
 
 module _ (f : List ℕ) (j : Job) (w : Window) (room : ℕ) (acc : Accepted f j w room) where
   pub sits : (k : ℕ) → k < j.count → real (seg_at f j k) ≡ true → Sits (length f) (low j.kind w) w (seg_at f j k)
-  unfolding test_at test
+  unfolding passes
   sits k lt r =
       let s = seg_at f j k in
-      let loads = (and_true (eqb s.kind 1) (ltb 0 s.memsz) r).0 in
-      let u : unfit (length f) s ≡ false = none_at (test_at f j w 22) j.count k acc.sizes lt in
-      let x : Bool = not (leb s.filesz s.memsz && leb (s.offset + s.filesz) (length f)) in
-      let v : x ≡ false = ap (λ (b : Bool). b && x) (sym loads) ∙ u in
-      let p = nand_false (leb s.filesz s.memsz) (leb (s.offset + s.filesz) (length f)) v in
+      let u : unfit (length f) s ≡ false = none_at (passes (unfit (length f)) (seg_at f j)) j.count k acc.sizes lt in
       record {
-        place = placed_at f j w (low j.kind w) k j.count s refl refl r acc.window acc.inside lt;
-        sizes = leb-true s.filesz s.memsz p.0;
-        in_file = leb-true (s.offset + s.filesz) (length f) p.1;
+        place = placed_at f j w (low j.kind w) k s refl refl r acc.window acc.inside lt;
+        sizes = grind (arith, nat_tests);
+        in_file = grind (arith, nat_tests);
         short_file = acc.held.short_file;
       }
 
@@ -126,25 +123,18 @@ module _ (f : List ℕ) (j : Job) (w : Window) (room : ℕ) (acc : Accepted f j 
   -- ---- the promises of the segments
 
   pub entered : (k : ℕ) × (k < j.count) × (real (seg_at f j k) ≡ true) × (executable (seg_at f j k) ≡ true) × ((seg_at f j k).vaddr ≤ j.entry) × (j.entry < (seg_at f j k).vaddr + (seg_at f j k).memsz)
-  unfolding test_at test
+  unfolding passes
   entered =
-      let q = found (test_at f j w 27) j.count acc.entered in
+      let q = found (passes (holds_entry j.entry) (seg_at f j)) j.count acc.entered in
       let s = seg_at f j q.0 in
       let t : holds_entry j.entry s ≡ true = q.2 in
-      let a = and_true (real s) (executable s && (leb s.vaddr j.entry && ltb (j.entry - s.vaddr) s.memsz)) t in
-      let b = and_true (executable s) (leb s.vaddr j.entry && ltb (j.entry - s.vaddr) s.memsz) a.1 in
-      let c = and_true (leb s.vaddr j.entry) (ltb (j.entry - s.vaddr) s.memsz) b.1 in
-      let d = leb-true s.vaddr j.entry c.0 in
-      (q.0, q.1, a.0, b.0, d, omega (arith, d, ltb-true (j.entry - s.vaddr) s.memsz c.1))
-
-  both : (a b c : Bool) → a ≡ true → b ≡ true → c ≡ true → (a && (b && c)) ≡ true
-  both a b c p q r = rw (p, q, r)
+      (q.0, q.1, grind (arith, nat_tests), grind (arith, nat_tests), grind (arith, nat_tests), grind (arith, nat_tests))
 
   pub not_both : (k : ℕ) → k < j.count → real (seg_at f j k) ≡ true → executable (seg_at f j k) ≡ true → writable (seg_at f j k) ≡ true → ⊥
-  unfolding test_at test
+  unfolding passes
   not_both k lt r x y =
-      let e : write_exec (seg_at f j k) ≡ false = none_at (test_at f j w 26) j.count k acc.not_wx lt in
-      true≢false (sym (both (real (seg_at f j k)) (executable (seg_at f j k)) (writable (seg_at f j k)) r x y) ∙ e)
+      let e : write_exec (seg_at f j k) ≡ false = none_at (passes write_exec (seg_at f j)) j.count k acc.not_wx lt in
+      grind (arith, nat_tests)
 
   pub safe_segments : SafeSegments f j w
   safe_segments = record {

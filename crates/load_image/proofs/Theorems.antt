@@ -14,7 +14,7 @@ use Rattle.records.specs.Record.{record_at, table_bytes}
 use Rattle.records.specs.declared.Record.{Record}
 use Rattle.load_rules.specs.declared.Window.{Window}
 use Rattle.load_plan.specs.Plan.{plan_in, Made}
-use Rattle.load_plan.specs.declared.Answer.TheVariants.{Planned}
+use Rattle.std.specs.Prelude.{Ok}
 use Rattle.load_image.specs.Carry.{carried_below}
 use Rattle.load_image.specs.Pieces.{Neat, Pieces, Same, Shuffled}
 use Rattle.load_image.proofs.Pieces.{again, any_order}
@@ -63,7 +63,7 @@ shuffled start f t t' n m p s =
 
 -- ---- a plan that is made
 
-module _ (f : List ℕ) (w : Window) (table table' : List ℕ) (n : ℕ) (p : Made f w table table' (Planned n)) (m : List ℕ) (hm : length m ≡ w.len) where
+module _ (f : List ℕ) (w : Window) (table table' : List ℕ) (n : ℕ) (p : Made f w table table' (Ok n)) (m : List ℕ) (hm : length m ≡ w.len) where
   plan_pieces : Pieces w.start (length m) (length f) table' n
   plan_pieces =
       let b = begins f w table table' n p in

@@ -6,19 +6,15 @@
 -- Loaded f j w old new   the memory before and after
 -- Outcome                what loading answers and leaves
 -- Assumes nothing.
-use Rattle.std.specs.Prelude.{ℕ, ◌+◌, ◌-◌, ◌/◌, ◌%◌, ◌≤◌, ◌<◌, ◌≡◌, Bool, true, false, ◌&&◌, cond, List, length, get_or, leb, ltb, eqb}
-use Rattle.endian.specs.Range.{no_fault}
+use Rattle.std.specs.Prelude.{ℕ, ◌+◌, ◌-◌, ◌/◌, ◌%◌, ◌≤◌, ◌<◌, ◌≡◌, true, ◌&&◌, cond, List, length, get_or, leb, ltb, eqb, Result, Ok, Err}
 use Rattle.segment.specs.declared.ProgramHeader.{ProgramHeader}
 use Rattle.records.specs.Record.{record_at}
-use Rattle.records.specs.declared.Record.{Record}
 use Rattle.load_rules.specs.Rules.{real, first, last, low, executable, writable}
 use Rattle.load_rules.specs.declared.Window.{Window}
 use Rattle.load_plan.specs.Plan.{seg_at, begun_of, plan_of, answer_of, table_after}
 use Rattle.load_plan.specs.declared.Job.{Job}
-use Rattle.load_plan.specs.declared.Begun.TheVariants as begun
-use Rattle.load_plan.specs.declared.Refusal.{Refusal}
-use Rattle.load_plan.specs.declared.Answer.{Answer}
-use Rattle.load_plan.specs.declared.Answer.TheVariants.{Planned, Refused}
+use Rattle.load_plan.specs.declared.refusal.Refusal.{Refusal}
+use Rattle.load_plan.specs.declared.refusal.Refusal.TheVariants.{Outside}
 
 -- ---- the image
 
@@ -73,20 +69,20 @@ pub record SafeRecords (f : List ℕ) (j : Job) (w : Window) (t : List ℕ) (n :
 -- what holds of a file that is loaded, with n records in the table t
 pub record Done (f : List ℕ) (w : Window) (t : List ℕ) (n : ℕ) (old new : List ℕ) : Type 0 where
   pub job : Job
-  pub is_job : begun_of f ≡ begun.Is job
+  pub is_job : begun_of f ≡ Ok job
   pub segments : SafeSegments f job w
   pub pieces : SafeRecords f job w t n
   pub image : Loaded f job w old new
 
-abbrev pub After : List ℕ → Window → List ℕ → List ℕ → List ℕ → Answer → Type 0
-After f w t old new (Planned n) = Done f w t n old new
-After f w t old new (Refused r) = new ≡ old
+abbrev pub After : List ℕ → Window → List ℕ → List ℕ → List ℕ → Result ℕ Refusal → Type 0
+After f w t old new (Ok n) = Done f w t n old new
+After f w t old new (Err r) = new ≡ old
 
 -- the plan's answer; 24 too where the memory is not as long as the window
-unfoldable pub load_answer : List ℕ → Window → ℕ → ℕ → Answer
-load_answer f w room mlen = cond (eqb mlen w.len) (answer_of f w room) (Refused (record { number = 24; reader = no_fault }))
+unfoldable pub load_answer : List ℕ → Window → ℕ → ℕ → Result ℕ Refusal
+load_answer f w room mlen = cond (eqb mlen w.len) (answer_of f w room) (Err Outside)
 
-pub record Outcome (f : List ℕ) (w : Window) (table table' old new : List ℕ) (r : Answer) : Type 0 where
+pub record Outcome (f : List ℕ) (w : Window) (table table' old new : List ℕ) (r : Result ℕ Refusal) : Type 0 where
   pub answers : r ≡ load_answer f w (length table) (length old)
   -- the records of the file and behind them what stood there, or as it was
   pub table_is : table' ≡ table_after r (plan_of f w) table

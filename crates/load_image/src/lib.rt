@@ -2,156 +2,168 @@
 // The memory's byte 0 is the window's first. A table of records is not trusted: each record is tested before a byte is written.
 #![tactic(auto)]
 
-ghost use Rattle.std.specs.Prelude.{◌≡◌, true, false, ◌*◌, ◌≤◌, length};
+ghost use Rattle.std.specs.Prelude.{◌≡◌, ℕ, Bool, ◌*◌, ◌<◌, ◌≤◌, length};
+ghost use Rattle.records.specs.Record.{record_at};
+ghost use Rattle.records.specs.declared.Record.{Record};
 ghost use Rattle.load_rules.specs.Rules.{any_below};
 ghost use Rattle.load_plan.specs.Plan.{window_of};
-ghost use Rattle.load_image.specs.Carry.{astray, beyond, wrong_at, wrong, carry_number, Fitted, carried, carried_below, CarriedOut};
+ghost use Rattle.load_image.specs.Carry.{astray, beyond, passes, verdict_of, Fitted, carried, carried_below, CarriedOut};
 ghost use Rattle.load_image.specs.Image.{Outcome};
 ghost use Rattle.load_image.specs.Pieces.{Neat};
 
-use endian::Fault;
-use load_plan::{Answer, Refusal};
+use load_plan::Refusal;
 use load_rules::Window;
 use records::Record;
 
-// The test of number d of one record: 24 its pages or its bytes leave the window, 22 its bytes aren't in the file.
-fn is_wrong(d: u8, w: Window, flen: u64, r: Record) -> bool
-    ensures { result ≡ wrong d w flen r }
+// Do a record's pages or its bytes leave the window?
+fn is_astray(w: Window, r: Record) -> bool
+    ensures { result ≡ astray w r }
 {
-    if d == 24 {
-        return !(((w.start <= r.page) & memory::fits(memory::less(r.page, w.start), r.len, w.len))
-            & ((w.start <= r.at) & memory::fits(memory::less(r.at, w.start), r.count, w.len)));
-    }
+    !(memory::is_within(w.start, w.len, r.page, r.len)
+        && memory::is_within(w.start, w.len, r.at, r.count))
+}
+
+// Are a record's bytes not in the file?
+fn is_beyond(flen: u64, r: Record) -> bool
+    ensures { result ≡ beyond flen r }
+{
     !memory::fits(r.from, r.count, flen)
 }
 
-// Does the test of number d hold of one of n records?
-fn any_wrong(d: u8, w: Window, flen: u64, t: &[u8], n: usize) -> bool
-    requires { 48 * n ≤ length t.now }
-    ensures { result ≡ any_below (wrong_at d w flen t.now) n }
+// Does the test hold of one of n records? load_plan asks the same of program headers: one function for both would need a
+// trait with a reader and its law, which is no plainer.
+fn any<P: Fn(Record) -> bool>(t: &[u8], n: usize, test: P) -> bool
+    requires callable { P.IsAlwaysCallable test }
+    requires room { 48 * n ≤ length t.now }
+    ensures { (p : Record → Bool) → ((s : Record) (r : Bool) → P.post test s r → r ≡ p s)
+        → result ≡ any_below (passes p t.now) n }
 {
-    let mut k = 0;
-    while k < n {
-        let r = records::record_at(t, k);
-        if is_wrong(d, w, flen, r) {
+    for k in 0..n {
+        if test(Record::read(t, k)) {
             return true;
         }
-        k += 1;
     }
     false
 }
 
-// The number of the refusal, or 0.
-fn refuse(w: Window, flen: u64, t: &[u8], n: usize, mlen: u64) -> u8
-    ensures { result ≡ carry_number w flen t.now n mlen }
+// The tests of n records of a table, for a file and a memory of these lengths: the first that holds refuses them.
+#[tactic(auto, unfolding(crate::specs::Carry::verdict_of))]
+fn test(w: Window, flen: u64, t: &[u8], n: usize, mlen: u64) -> Result<(), Refusal>
+    ensures { result ≡ verdict_of w flen t.now n mlen }
 {
     if t.len() / 48 < n {
-        return 14;
+        return Err(Refusal::ShortTable);
     }
-    if mlen == w.len {
-        if any_wrong(24, w, flen, t, n) {
-            return 24;
+    if mlen != w.len {
+        return Err(Refusal::Outside);
+    }
+    if any(t, n, |r| is_astray(w, r)) {
+        return Err(Refusal::Outside);
+    }
+    if any(t, n, |r| is_beyond(flen, r)) {
+        return Err(Refusal::Unfit);
+    }
+    Ok(())
+}
+
+// A file whose plan is carried out in a memory that begins at the address `start`.
+#[derive(Clone, Copy)]
+struct Source<'a> {
+    start: u64,
+    file: &'a [u8],
+}
+
+impl<'a> Source<'a> {
+    // All bytes of a record's pages become 0, then its file bytes are put in place.
+    fn carry_plain(&self, r: Record, m: &mut [u8])
+        requires { Fitted self.now.start (length m.old) (length self.now.file.now) r }
+        ensures { m.new ≡ carried self.now.start self.now.file.now r m.old }
+    {
+        let a = (r.page - self.start) as usize;
+        let b = a + r.len as usize;
+        memory::zero(&mut m[a..b]);
+        let c = (r.at - self.start) as usize;
+        let d = c + r.count as usize;
+        let x = r.from as usize;
+        let y = x + r.count as usize;
+        memory::copy(&mut m[c..d], &self.file[x..y]);
+    }
+
+    // The same for a record whose file bytes lie in its pages: only the gaps in front of them and behind them are zeroed,
+    // so that no byte is written twice.
+    fn carry_within(&self, r: Record, m: &mut [u8])
+        requires { Neat self.now.start (length m.old) (length self.now.file.now) r }
+        ensures { m.new ≡ carried self.now.start self.now.file.now r m.old }
+    {
+        let a = (r.page - self.start) as usize;
+        let c = (r.at - self.start) as usize;
+        memory::zero(&mut m[a..c]);
+        let d = c + r.count as usize;
+        let x = r.from as usize;
+        let y = x + r.count as usize;
+        memory::copy(&mut m[c..d], &self.file[x..y]);
+        let e = a + r.len as usize;
+        memory::zero(&mut m[d..e]);
+    }
+
+    // The bytes of a plan's records lie in their pages; a table that is no plan of ours may have others. The sums are of
+    // offsets in the memory, so they don't wrap.
+    fn carry_one(&self, r: Record, m: &mut [u8])
+        requires { Fitted self.now.start (length m.old) (length self.now.file.now) r }
+        ensures { m.new ≡ carried self.now.start self.now.file.now r m.old }
+    {
+        if r.page <= r.at && r.at - self.start + r.count <= r.page - self.start + r.len {
+            self.carry_within(r, m);
+        } else {
+            self.carry_plain(r, m);
         }
-        if any_wrong(22, w, flen, t, n) {
-            return 22;
+    }
+
+    // Of n records of a table.
+    fn carry_all(&self, t: &[u8], n: usize, m: &mut [u8])
+        requires room { 48 * n ≤ length t.now }
+        requires fitted { (k : ℕ) → k < n → Fitted self.now.start (length m.old) (length self.now.file.now) (record_at t.now k) }
+        ensures { m.new ≡ carried_below self.now.start self.now.file.now t.now n m.old }
+    {
+        for k in 0..n {
+            self.carry_one(Record::read(t, k), m);
         }
-        return 0;
-    }
-    24
-}
-
-// All bytes of a record's pages become 0, then its file bytes are put in place.
-fn carry_plain(start: u64, f: &[u8], r: Record, m: &mut [u8])
-    requires { Fitted start (length m.old) (length f.now) r }
-    ensures { m.new ≡ carried start f.now r m.old }
-{
-    let a = (r.page - start) as usize;
-    let b = a + r.len as usize;
-    memory::zero(&mut m[a..b]);
-    let c = (r.at - start) as usize;
-    let d = c + r.count as usize;
-    let x = r.from as usize;
-    let y = x + r.count as usize;
-    memory::copy(&mut m[c..d], &f[x..y]);
-}
-
-// The same for a record whose file bytes lie in its pages: only the gaps in front of them and behind them are zeroed, so
-// that no byte is written twice.
-fn carry_within(start: u64, f: &[u8], r: Record, m: &mut [u8])
-    requires { Neat start (length m.old) (length f.now) r }
-    ensures { m.new ≡ carried start f.now r m.old }
-{
-    let a = (r.page - start) as usize;
-    let c = (r.at - start) as usize;
-    memory::zero(&mut m[a..c]);
-    let d = c + r.count as usize;
-    let x = r.from as usize;
-    let y = x + r.count as usize;
-    memory::copy(&mut m[c..d], &f[x..y]);
-    let e = a + r.len as usize;
-    memory::zero(&mut m[d..e]);
-}
-
-// The bytes of a plan's records lie in their pages; a table that is no plan of ours may have others. The sums are of
-// offsets in the memory, so they don't wrap.
-fn carry_one(start: u64, f: &[u8], r: Record, m: &mut [u8])
-    requires { Fitted start (length m.old) (length f.now) r }
-    ensures { m.new ≡ carried start f.now r m.old }
-{
-    if (r.page <= r.at) & (r.at - start + r.count <= r.page - start + r.len) {
-        carry_within(start, f, r, m);
-    } else {
-        carry_plain(start, f, r, m);
     }
 }
 
-fn carry_all(w: Window, f: &[u8], t: &[u8], n: usize, m: &mut [u8])
-    requires { carry_number w (length f.now) t.now n (length m.old) ≡ 0 }
-    ensures { m.new ≡ carried_below w.start f.now t.now n m.old }
-{
-    let start = w.start;
-    let mut k = 0;
-    while k < n {
-        let r = records::record_at(t, k);
-        carry_one(start, f, r, m);
-        k += 1;
-    }
-}
-
-// Carries out n records of a table, or changes nothing and says why: 14 the table has not so many, 24 the memory is not
-// as long as the window or a record leaves it, 22 a record's bytes aren't in the file.
-pub fn carry_out(f: &[u8], start: u64, len: u64, t: &[u8], n: usize, m: &mut [u8]) -> u8
+// Carries out n records of a table (the number comes from C beside the table), or changes nothing and says why: ShortTable where
+// the table has not so many, Outside where the memory is not as long as the window or a record leaves it, Unfit where a record's
+// bytes aren't in the file.
+pub fn carry_out(
+    f: &[u8],
+    start: u64,
+    len: u64,
+    t: &[u8],
+    n: usize,
+    m: &mut [u8],
+) -> Result<(), Refusal>
     ensures { CarriedOut f.now (window_of start len) t.now n m.old m.new result }
 {
-    let w = Window {
-        start: start,
-        len: len,
-    };
-    let d = refuse(w, f.len() as u64, t, n, m.len() as u64);
-    if d == 0 {
-        carry_all(w, f, t, n, m);
-    }
-    d
+    let w = Window { start, len };
+    test(w, f.len() as u64, t, n, m.len() as u64)?;
+    Source { start, file: f }.carry_all(t, n, m);
+    Ok(())
 }
 
 // Plans a file and carries the plan out: the records in the table and the file in the memory, or both untouched.
-pub fn load(f: &[u8], start: u64, len: u64, table: &mut [u8], m: &mut [u8]) -> Answer
+pub fn load(
+    f: &[u8],
+    start: u64,
+    len: u64,
+    table: &mut [u8],
+    m: &mut [u8],
+) -> Result<usize, Refusal>
     ensures { Outcome f.now (window_of start len) table.old table.new m.old m.new result }
 {
-    if m.len() as u64 == len {
-        let a = load_plan::plan(f, start, len, table);
-        match a {
-            Answer::Planned(n) => {
-                carry_out(f, start, len, table, n, m);
-                return Answer::Planned(n);
-            }
-            Answer::Refused(r) => {
-                return Answer::Refused(r);
-            }
-        }
+    if m.len() as u64 != len {
+        return Err(Refusal::Outside);
     }
-    Answer::Refused(Refusal {
-        number: 24,
-        reader: Fault { number: 0 },
-    })
+    let n = load_plan::plan(f, start, len, table)?;
+    carry_out(f, start, len, table, n, m)?;
+    Ok(n)
 }

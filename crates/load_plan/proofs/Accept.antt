@@ -1,44 +1,40 @@
--- What an answer says: the number 0 is that no test holds, and any other is a refusal that leaves the table as it was.
+-- What an answer says: where there is no refusal no test holds, and a refusal leaves the table as it was.
 -- Assumes nothing.
-use Prim.Native.Nat.{ℕ, ◌*◌, ◌<◌}
-use native.Mathlib.Omega.{arith}
+use Prim.Native.Nat.{ℕ, ◌*◌}
 use mathlib.Core.Path.{◌≡◌, refl, sym, ap, ◌∙◌}
-use mathlib.Core.Bool.{Bool, true, false, not, cond, true≢false}
+use mathlib.Core.Bool.{Bool, true, false, not, cond}
 use mathlib.Core.List.{List}
 use lib.ListN.{length}
-use lib.Dec.{ltb, eqb}
-use borrow.Author.Tests.{not-false, ltb-false, eqb-true, eq-eqb, ne_eqb}
-use Rattle.endian.specs.Range.{no_fault}
-use Rattle.endian.specs.declared.Fault.{Fault}
+use lib.Dec.{ltb}
+use borrow.Author.Tests.{not-false, ltb-false}
+use Rattle.std.specs.Prelude.{Result, Ok, Err, ⊤}
 use Rattle.records.specs.declared.Record.{Record}
-use Rattle.load_rules.specs.Rules.{any_below, good_window}
+use Rattle.load_rules.specs.Rules.{any_below, low, good_window, unfit, skewed, outside, write_exec, holds_entry}
 use Rattle.load_rules.specs.declared.Window.{Window}
 use Rattle.load_plan.specs.declared.Job.{Job}
-use Rattle.load_plan.specs.declared.Begun.{Begun}
-use Rattle.load_plan.specs.declared.Begun.TheVariants as begun
-use Rattle.load_plan.specs.declared.Refusal.{Refusal}
-use Rattle.load_plan.specs.declared.Answer.TheVariants.{Planned, Refused}
-use Rattle.load_plan.specs.Plan.{seg_at, some, clash_at, other, tests, plan_in, plan_of, records_in, number_of, refusal_in, refusal_of, answer_of, begun_of, table_after, Made}
+use Rattle.load_plan.specs.declared.refusal.Refusal.{Refusal}
+use Rattle.load_plan.specs.declared.refusal.Refusal.TheVariants.{ShortTable, OtherKind, Unfit, Skewed, Outside, Clash, WriteExec, NoEntry}
+use Rattle.load_plan.specs.Plan.{seg_at, some, clash_at, other, tests, plan_in, plan_of, records_in, verdict_of, answer_of, begun_of, table_after, ◌>>=◌, Made}
 use Rattle.load_plan.specs.Facts.{Held, Accepted, Filled}
 use Rattle.load_plan.proofs.Opening.{held}
 
--- a test that gives no number did not hold
-pass : (b : Bool) (d r : ℕ) → 0 < d → cond b d r ≡ 0 → (b ≡ false) × (r ≡ 0)
-pass true d r p h = absurd (omega arith)
-pass false d r p h = (refl, h)
+-- a test that does not refuse did not hold
+pub pass : (b : Bool) (r : Refusal) (rest : Result ⊤ Refusal) → cond b (Err r) rest ≡ Ok tt → (b ≡ false) × (rest ≡ Ok tt)
+pass true r rest h = cc
+pass false r rest h = (refl, h)
 
-pub accepted : (f : List ℕ) (j : Job) (w : Window) (room : ℕ) → Held f j → number_of f j w room ≡ 0 → Accepted f j w room
-unfolding number_of tests
+pub accepted : (f : List ℕ) (j : Job) (w : Window) (room : ℕ) → Held f j → verdict_of f j w room ≡ Ok tt → Accepted f j w room
+unfolding verdict_of tests
 accepted f j w room h e =
-    let p2 = pass (other j.kind) 21 _ (omega arith) e in
-    let p3 = pass (some f j w 22) 22 _ (omega arith) p2.1 in
-    let p4 = pass (some f j w 23) 23 _ (omega arith) p3.1 in
-    let p5 = pass (not (good_window w)) 24 _ (omega arith) p4.1 in
-    let p6 = pass (some f j w 24) 24 _ (omega arith) p5.1 in
-    let p7 = pass (any_below (clash_at (seg_at f j)) j.count) 25 _ (omega arith) p6.1 in
-    let p8 = pass (some f j w 26) 26 _ (omega arith) p7.1 in
-    let p9 = pass (not (some f j w 27)) 27 _ (omega arith) p8.1 in
-    let p10 = pass (ltb room (48 * length (plan_in f w j))) 14 _ (omega arith) p9.1 in
+    let p2 = pass (other j.kind) OtherKind _ e in
+    let p3 = pass (some f j (unfit (length f))) Unfit _ p2.1 in
+    let p4 = pass (some f j skewed) Skewed _ p3.1 in
+    let p5 = pass (not (good_window w)) Outside _ p4.1 in
+    let p6 = pass (some f j (outside (low j.kind w) w.len)) Outside _ p5.1 in
+    let p7 = pass (any_below (clash_at (seg_at f j)) j.count) Clash _ p6.1 in
+    let p8 = pass (some f j write_exec) WriteExec _ p7.1 in
+    let p9 = pass (not (some f j (holds_entry j.entry))) NoEntry _ p8.1 in
+    let p10 = pass (ltb room (48 * length (plan_in f w j))) ShortTable _ p9.1 in
     record {
       held = h;
       kind = p2.0;
@@ -48,63 +44,55 @@ accepted f j w room h e =
       inside = p6.0;
       ordered = p7.0;
       not_wx = p8.0;
-      entered = not-false (some f j w 27) p9.0;
+      entered = not-false (some f j (holds_entry j.entry)) p9.0;
       room_enough = ltb-false room (48 * length (plan_in f w j)) p10.0;
     }
 
 -- a file that can't be begun
-pub made_closed : (f : List ℕ) (w : Window) (t : List ℕ) (x : Fault) → begun.Refused x ≡ begun_of f → Made f w t t (Refused (record { number = 20; reader = x }))
-unfolding answer_of refusal_of
-made_closed f w t x e =
-    let r : refusal_of f w (length t) ≡ record { number = 20; reader = x } = ap (refusal_in f w (length t)) (sym e) in
-    record { answers = sym (ap (λ (z : Refusal). cond (eqb z.number 0) (Planned (length (plan_of f w))) (Refused z)) r); table = refl }
+pub made_closed : (f : List ℕ) (w : Window) (t : List ℕ) (r : Refusal) → begun_of f ≡ Err r → Made f w t t (Err r)
+unfolding answer_of
+made_closed f w t r e = record { answers = rw e; table = refl }
 
--- a file that is begun: what the number d of its refusal answers
-module _ (f : List ℕ) (w : Window) (j : Job) (old : List ℕ) (b : begun.Is j ≡ begun_of f) (d : ℕ) (e : d ≡ number_of f j w (length old)) where
-  answer_is : answer_of f w (length old) ≡ cond (eqb d 0) (Planned (length (plan_of f w))) (Refused (record { number = d; reader = no_fault }))
-  unfolding answer_of refusal_of
-  answer_is =
-      ap (λ (z : Begun). cond (eqb (refusal_in f w (length old) z).number 0) (Planned (length (plan_of f w))) (Refused (refusal_in f w (length old) z))) (sym b)
-      ∙ ap (λ (n : ℕ). cond (eqb n 0) (Planned (length (plan_of f w))) (Refused (record { number = n; reader = no_fault }))) (sym e)
-
-  pub plan_is : plan_in f w j ≡ plan_of f w
+-- a file that is begun
+module _ (f : List ℕ) (w : Window) (j : Job) (old : List ℕ) (b : begun_of f ≡ Ok j) where
+  pub plan_is : plan_of f w ≡ plan_in f w j
   unfolding plan_of
   plan_is = ap (records_in f w) b
 
-  pub made_planned : d ≡ 0 → (n : ℕ) (new : List ℕ) → Filled (plan_in f w j) old new n → Made f w old new (Planned n)
-  made_planned z n new p = record {
-    answers = ap Planned (p.count ∙ ap length plan_is) ∙ sym (answer_is ∙ rw (eq-eqb d 0 z));
-    table = p.table ∙ ap (λ (rs : List Record). table_after (Planned n) rs old) plan_is;
+  pub made_planned : verdict_of f j w (length old) ≡ Ok tt → (n : ℕ) (new : List ℕ) → Filled (plan_in f w j) old new n → Made f w old new (Ok n)
+  unfolding answer_of
+  made_planned e n new p = record {
+    answers = rw (b, e) (ap Ok p.count);
+    table = p.table ∙ ap (λ (rs : List Record). table_after (Ok n) rs old) (sym plan_is);
   }
 
-  pub made_refused : (d ≡ 0 → ⊥) → Made f w old old (Refused (record { number = d; reader = no_fault }))
-  made_refused z = record { answers = sym (answer_is ∙ rw (ne_eqb d 0 z)); table = refl }
+  pub made_refused : (r : Refusal) → verdict_of f j w (length old) ≡ Err r → Made f w old old (Err r)
+  unfolding answer_of
+  made_refused r e = record { answers = rw (b, e); table = refl }
 
 -- ---- what a file that is planned is
 
 pub record Begins (f : List ℕ) (w : Window) (room n : ℕ) : Type 0 where
   pub job : Job
-  pub is_job : begun_of f ≡ begun.Is job
+  pub is_job : begun_of f ≡ Ok job
   pub accepted_is : Accepted f job w room
   pub count_is : n ≡ length (plan_in f w job)
   pub plan_is : plan_of f w ≡ plan_in f w job
 
-pub planned : (f : List ℕ) (w : Window) (room n : ℕ) → Planned n ≡ answer_of f w room → Begins f w room n
-unfolding answer_of refusal_of plan_of
+pub planned : (f : List ℕ) (w : Window) (room n : ℕ) → Ok n ≡ answer_of f w room → Begins f w room n
+unfolding answer_of plan_of
 planned f w room n e = begins (begun_of f) refl e
   where
-    zero_is : (b : Begun) (c : Bool) → Planned n ≡ cond c (Planned (length (records_in f w b))) (Refused (refusal_in f w room b)) → (c ≡ true) × (n ≡ length (records_in f w b))
-    zero_is b true q = (refl, cc)
-    zero_is b false q = let z : ◌≡◌ {A = ℕ} 0 1 = cc in absurd (omega arith)
+    verdict : (j : Job) → begun_of f ≡ Ok j → (v : Result ⊤ Refusal) → verdict_of f j w room ≡ v → Ok n ≡ (v >>= λ _. Ok (length (plan_in f w j))) → Begins f w room n
+    verdict j p (Err r) v q = cc
+    verdict j p (Ok tt) v q = record {
+      job = j;
+      is_job = p;
+      accepted_is = accepted f j w room (held f j p) v;
+      count_is = cc;
+      plan_is = ap (records_in f w) p;
+    }
 
-    begins : (b : Begun) → begun_of f ≡ b → Planned n ≡ cond (eqb (refusal_in f w room b).number 0) (Planned (length (records_in f w b))) (Refused (refusal_in f w room b)) → Begins f w room n
-    begins (begun.Refused x) p q = let z = zero_is (begun.Refused x) (eqb 20 0) q in absurd (true≢false (sym z.0))
-    begins (begun.Is j) p q =
-        let z = zero_is (begun.Is j) (eqb (number_of f j w room) 0) q in
-        record {
-          job = j;
-          is_job = p;
-          accepted_is = accepted f j w room (held f j p) (eqb-true _ _ z.0);
-          count_is = z.1;
-          plan_is = ap (records_in f w) p;
-        }
+    begins : (b : Result Job Refusal) → begun_of f ≡ b → Ok n ≡ (b >>= λ j. verdict_of f j w room >>= λ _. Ok (length (plan_in f w j))) → Begins f w room n
+    begins (Err r) p q = cc
+    begins (Ok j) p q = verdict j p (verdict_of f j w room) refl q

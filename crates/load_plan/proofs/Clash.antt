@@ -4,18 +4,19 @@ use Prim.Native.Nat.{ℕ, zero, suc, ◌≤◌, ◌<◌}
 use native.Mathlib.Nat.{eq-or-lt_of_le, le_of_suc-le-suc, not-suc-le-zero, le_trans}
 use native.Mathlib.Omega.{arith}
 use mathlib.Core.Path.{◌≡◌, refl, sym, ap, ◌∙◌}
-use mathlib.Core.Bool.{Bool, true, false, ◌&&◌, ◌||◌, cond, true≢false, and-false}
+use mathlib.Core.Bool.{Bool, true, false, ◌&&◌, ◌||◌, cond, true≢false}
 use mathlib.Core.List.{List}
 use mathlib.Core.Logic.{◌⊎◌, inl, inr, ⊎_elim}
 use lib.Dec.{leb, ltb}
-use borrow.Author.Tests.{leb-false, lt-leb, ltb-true, ltb-false, lt-ltb, le-ltb}
+use borrow.Author.Tests.{ltb-false}
 use Rattle.segment.specs.declared.ProgramHeader.{ProgramHeader}
-use Rattle.load_rules.specs.Rules.{any_below, real, first, last, low, good_window}
+use Rattle.load_rules.specs.Rules.{any_below, real, first, last, low, outside, good_window}
 use Rattle.load_rules.specs.declared.Window.{Window}
-use Rattle.load_rules.proofs.Tests.{and_true, none_at, none_of, some_at, found, or_false_left, or_false_right}
+use Rattle.std.proofs.lemmas.Bool.Decides.{nat_tests}
+use Rattle.load_rules.proofs.Tests.{none_at, none_of, some_at, found}
 use Rattle.load_rules.proofs.Pages.{real_pos}
 use Rattle.load_plan.specs.declared.Job.{Job}
-use Rattle.load_plan.specs.Plan.{seg_at, test_at, clash, clash_with, clash_at}
+use Rattle.load_plan.specs.Plan.{seg_at, some, clash, clash_with, clash_at}
 use Rattle.load_plan.specs.Facts.{end_below, crossed}
 use Rattle.load_plan.proofs.Order.{placed_at}
 
@@ -26,15 +27,9 @@ inner s r = let p = real_pos s r in (omega arith, omega arith)
 -- two segments that do not clash lie apart, and the other way round
 pub clash_apart : (s t : ProgramHeader) → real s ≡ true → real t ≡ true → clash s t ≡ false → last s ≤ first t
 clash_apart s t rs rt e =
-    let x = leb t.vaddr s.vaddr in
-    let a = ltb (first s) (last t) in
-    let b = ltb (first t) (last s) in
-    let o : (x || (a && b)) ≡ false = rw (rs, rt) at e in
-    let lt = leb-false t.vaddr s.vaddr (or_false_left x (a && b) o) in
-    let ab = or_false_right x (a && b) o in
-    let at : a ≡ true = lt-ltb (first s) (last t) (omega (arith, inner s rs, inner t rt)) in
-    let bf : b ≡ false = rw at at ab in
-    ltb-false (first t) (last s) bf
+    let a = inner s rs in
+    let b = inner t rt in
+    grind (arith, nat_tests)
 
 pub apart_clash : (s t : ProgramHeader) → (real s ≡ true → real t ≡ true → last s ≤ first t) → clash s t ≡ false
 apart_clash s t h = go (real s) refl (real t) refl
@@ -46,16 +41,13 @@ apart_clash s t h = go (real s) refl (real t) refl
         let q = h ex ey in
         let a = inner s ex in
         let b = inner t ey in
-        rw (lt-leb t.vaddr s.vaddr (omega arith), le-ltb (first t) (last s) q) (and-false (ltb (first s) (last t)))
+        grind (arith, nat_tests)
 
 clash_yes : (s t : ProgramHeader) → real s ≡ true → real t ≡ true → first t < last s → clash s t ≡ true
-clash_yes s t rs rt h = go (leb t.vaddr s.vaddr) refl
-  where
-    go : (b : Bool) → leb t.vaddr s.vaddr ≡ b → clash s t ≡ true
-    go true e = rw (rs, rt, e)
-    go false e =
-        let lt = leb-false t.vaddr s.vaddr e in
-        rw (rs, rt, e, lt-ltb (first s) (last t) (omega (arith, inner s rs, inner t rt)), lt-ltb (first t) (last s) h)
+clash_yes s t rs rt h =
+    let a = inner s rs in
+    let b = inner t rt in
+    grind (arith, nat_tests)
 
 -- the end of the pages so far is that of a segment before, or where the window starts
 record Before (seg : ℕ → ProgramHeader) (k e : ℕ) : Type 0 where
@@ -83,11 +75,11 @@ module _ (seg : ℕ → ProgramHeader) (l n : ℕ) (inside : (k : ℕ) → k < n
   unfolding crossed clash_at clash_with
   crossed_found k lt c =
       let s = seg k in
-      let p = and_true (real s) (ltb (first s) (end_below seg l k)) c in
-      let b = ltb-true (first s) (end_below seg l k) p.1 in
+      let r : real s ≡ true = grind (arith, nat_tests) in
+      let b : first s < end_below seg l k = grind (arith, nat_tests) in
       ⊎_elim
-      (λ e. absurd (omega (arith, e, b, inside k lt p.0)))
-      (λ e. some_at (clash_with seg k) k e.which (clash_yes (seg e.which) s e.is_real p.0 (omega (arith, e.ends, b))) e.earlier)
+      (λ e. absurd (omega (arith, e, b, inside k lt r)))
+      (λ e. some_at (clash_with seg k) k e.which (clash_yes (seg e.which) s e.is_real r (omega (arith, e.ends, b))) e.earlier)
       (end_of seg l k)
 
   module _ (none : any_below (crossed seg l) n ≡ false) where
@@ -123,8 +115,8 @@ module _ (seg : ℕ → ProgramHeader) (l n : ℕ) (inside : (k : ℕ) → k < n
       go false e = e ∙ sym (none_of (clash_at seg) n (no_clash e))
 
 -- so it is for a file of which no segment is outside the window
-pub order_is : (f : List ℕ) (j : Job) (w : Window) (l : ℕ) → l ≡ low j.kind w → good_window w ≡ true → any_below (test_at f j w 24) j.count ≡ false
+pub order_is : (f : List ℕ) (j : Job) (w : Window) (l : ℕ) → l ≡ low j.kind w → good_window w ≡ true → some f j (outside l w.len) ≡ false
     → any_below (crossed (seg_at f j) l) j.count ≡ any_below (clash_at (seg_at f j)) j.count
 order_is f j w l el g none =
     crossed_clash (seg_at f j) l j.count
-    (λ k lt r. let p = placed_at f j w l k j.count (seg_at f j k) el refl r g none lt in let q = p.page in let h = p.low in omega arith)
+    (λ k lt r. let p = placed_at f j w l k (seg_at f j k) el refl r g none lt in let q = p.page in let h = p.low in omega arith)

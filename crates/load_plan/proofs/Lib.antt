@@ -1,3 +1,5 @@
+-- The crate's laws, a file each.
+-- Assumes nothing.
 pub mod Opening
 pub mod Order
 pub mod Clash

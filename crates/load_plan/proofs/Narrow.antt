@@ -7,28 +7,26 @@ use mathlib.Core.Path.{◌≡◌, refl, sym, ap, ap₂, ◌∙◌}
 use mathlib.Core.Bool.{Bool, ◌||◌, cond}
 use mathlib.Core.List.{List, [], ◌∷◌, ◌++◌}
 use lib.ListN.{length}
-use lib.Dec.{leb, eqb}
-use Rattle.endian.specs.Range.{faulty}
+use lib.Dec.{leb}
+use Rattle.std.specs.Prelude.{Result, Ok, Err, ⊤}
 use Rattle.endian.specs.Place.{size_of, program_header}
+use Rattle.endian.specs.declared.fault.Fault.{Fault}
 use Rattle.segment.specs.declared.ProgramHeader.{ProgramHeader}
 use Rattle.segment.proofs.Alike.{segment_same}
-use Rattle.elf_bytes.specs.declared.Opened.{Opened}
+use Rattle.elf_bytes.specs.declared.Elf.{Elf}
 use Rattle.elf_bytes.proofs.Alike.{open_same}
 use Rattle.records.specs.declared.Record.{Record}
-use Rattle.load_rules.specs.Rules.{max_file, any_below, low, real, record_of}
+use Rattle.load_rules.specs.Rules.{max_file, any_below, low, real, record_of, unfit, skewed, outside, write_exec, holds_entry}
 use Rattle.load_rules.specs.declared.Window.{Window}
 use Rattle.load_plan.specs.declared.Job.{Job}
-use Rattle.load_plan.specs.declared.Begun.{Begun}
-use Rattle.load_plan.specs.declared.Begun.TheVariants as begun
-use Rattle.load_plan.specs.declared.Refusal.{Refusal}
-use Rattle.load_plan.specs.declared.Answer.{Answer}
-use Rattle.load_plan.specs.declared.Answer.TheVariants.{Planned, Refused}
-use Rattle.load_plan.specs.Plan.{begun_of, begun_in, seg_at, test, test_at, clash, clash_with, clash_at, tests, number_of, records_below, plan_in, plan_of, records_in, refusal_in, refusal_of, answer_of, table_after, Made}
+use Rattle.load_plan.specs.declared.refusal.Refusal.{Refusal}
+use Rattle.load_plan.specs.declared.refusal.Refusal.TheVariants.{TooLong}
+use Rattle.load_plan.specs.Plan.{begun_of, begun_in, seg_at, passes, some, clash, clash_with, clash_at, tests, verdict_of, records_below, plan_in, plan_of, records_in, answer_of, table_after, ◌>>=◌, Made}
 use Rattle.load_plan.specs.Narrow.{Alike}
 
 begun_same : (f g : List ℕ) → Alike f g → begun_of f ≡ begun_of g
 unfolding begun_of
-begun_same f g a = ap₂ (λ (n : ℕ) (o : Opened). cond (leb n max_file) (begun_in o) (begun.Refused (faulty 0))) a.head.same_length (open_same f g a.head)
+begun_same f g a = ap₂ (λ (n : ℕ) (o : Result Elf Fault). cond (leb n max_file) (begun_in o) (Err TooLong)) a.head.same_length (open_same f g a.head)
 
 -- ---- the tests and the records
 
@@ -43,7 +41,7 @@ records_same s t start l zero h = refl
 records_same s t start l (suc n) h =
     ap₂ (λ (x : ProgramHeader) (rs : List Record). cond (real x) (rs ++ (record_of start l x ∷ [])) rs) (h n (omega arith)) (records_same s t start l n (λ k lt. h k (omega arith)))
 
-module _ (f g : List ℕ) (a : Alike f g) (w : Window) (j : Job) (b : begun_of f ≡ begun.Is j) where
+module _ (f g : List ℕ) (a : Alike f g) (w : Window) (j : Job) (b : begun_of f ≡ Ok j) where
   seg_same : (k : ℕ) → k < j.count → seg_at f j k ≡ seg_at g j k
   unfolding seg_at
   seg_same k lt =
@@ -52,9 +50,9 @@ module _ (f g : List ℕ) (a : Alike f g) (w : Window) (j : Job) (b : begun_of f
       let n : k * size + size ≤ j.count * size = rw suc-mul at m in
       segment_same j.class j.order f g (j.from + k * size) (λ i p q. a.segments j b i (omega arith) (omega arith))
 
-  some_same : (d : ℕ) → any_below (test_at f j w d) j.count ≡ any_below (test_at g j w d) j.count
-  unfolding test_at
-  some_same d = any_same (test_at f j w d) (test_at g j w d) j.count (λ k lt. ap₂ (λ (n : ℕ) (s : ProgramHeader). test d n j w s) a.head.same_length (seg_same k lt))
+  some_same : (p : ProgramHeader → Bool) → some f j p ≡ some g j p
+  unfolding passes
+  some_same p = any_same (passes p (seg_at f j)) (passes p (seg_at g j)) j.count (λ k lt. ap p (seg_same k lt))
 
   clash_same : any_below (clash_at (seg_at f j)) j.count ≡ any_below (clash_at (seg_at g j)) j.count
   unfolding clash_at clash_with
@@ -66,34 +64,41 @@ module _ (f g : List ℕ) (a : Alike f g) (w : Window) (j : Job) (b : begun_of f
   unfolding plan_in
   plan_same = records_same (seg_at f j) (seg_at g j) w.start (low j.kind w) j.count seg_same
 
-  number_is : (room : ℕ) → number_of f j w room ≡ number_of g j w room
-  unfolding number_of tests
-  number_is room = rw (some_same 22, some_same 23, some_same 24, clash_same, some_same 26, some_same 27, plan_same)
+  verdict_is : (room : ℕ) → verdict_of f j w room ≡ verdict_of g j w room
+  unfolding verdict_of tests
+  verdict_is room = rw (
+    some_same (unfit (length f)),
+    a.head.same_length,
+    some_same skewed,
+    some_same (outside (low j.kind w) w.len),
+    clash_same,
+    some_same write_exec,
+    some_same (holds_entry j.entry),
+    plan_same,
+  )
 
 module _ (f g : List ℕ) (a : Alike f g) (w : Window) where
-  refusal_same : (room : ℕ) → refusal_of f w room ≡ refusal_of g w room
-  unfolding refusal_of
-  refusal_same room = go (begun_of f) refl ∙ ap (refusal_in g w room) (begun_same f g a)
+  answer_same : (room : ℕ) → answer_of f w room ≡ answer_of g w room
+  unfolding answer_of
+  answer_same room = go (begun_of f) refl ∙ ap (λ (b : Result Job Refusal). b >>= told g) (begun_same f g a)
     where
-      go : (b : Begun) → begun_of f ≡ b → refusal_in f w room b ≡ refusal_in g w room b
-      go (begun.Refused x) p = refl
-      go (begun.Is j) p = ap (λ (n : ℕ). record { number = n; reader = faulty 0 }) (number_is f g a w j p room)
+      told : List ℕ → Job → Result ℕ Refusal
+      told s j = verdict_of s j w room >>= λ _. Ok (length (plan_in s w j))
+
+      go : (b : Result Job Refusal) → begun_of f ≡ b → (b >>= told f) ≡ (b >>= told g)
+      go (Err r) p = refl
+      go (Ok j) p = ap₂ (λ (v : Result ⊤ Refusal) (rs : List Record). v >>= λ _. Ok (length rs)) (verdict_is f g a w j p room) (plan_same f g a w j p)
 
   records_are : plan_of f w ≡ plan_of g w
   unfolding plan_of
   records_are = go (begun_of f) refl ∙ ap (records_in g w) (begun_same f g a)
     where
-      go : (b : Begun) → begun_of f ≡ b → records_in f w b ≡ records_in g w b
-      go (begun.Refused x) p = refl
-      go (begun.Is j) p = plan_same f g a w j p
-
-  answer_same : (room : ℕ) → answer_of f w room ≡ answer_of g w room
-  unfolding answer_of
-  answer_same room =
-      ap₂ (λ (r : Refusal) (rs : List Record). cond (eqb r.number 0) (Planned (length rs)) (Refused r)) (refusal_same room) records_are
+      go : (b : Result Job Refusal) → begun_of f ≡ b → records_in f w b ≡ records_in g w b
+      go (Err r) p = refl
+      go (Ok j) p = plan_same f g a w j p
 
   -- the same answer, and the same table
-  pub narrow : (old new new' : List ℕ) (r r' : Answer) → Made f w old new r → Made g w old new' r' → (r ≡ r') × (new ≡ new')
+  pub narrow : (old new new' : List ℕ) (r r' : Result ℕ Refusal) → Made f w old new r → Made g w old new' r' → (r ≡ r') × (new ≡ new')
   narrow old new new' r r' p q =
       let e : r ≡ r' = p.answers ∙ answer_same (length old) ∙ sym q.answers in
-      (e, p.table ∙ ap₂ (λ (x : Answer) (rs : List Record). table_after x rs old) e records_are ∙ sym q.table)
+      (e, p.table ∙ ap₂ (λ (x : Result ℕ Refusal) (rs : List Record). table_after x rs old) e records_are ∙ sym q.table)

@@ -9,21 +9,19 @@ use mathlib.Core.List.{List}
 use lib.ListN.{length}
 use lib.Dec.{leb, eqb}
 use borrow.Author.Tests.{leb-true}
-use Rattle.endian.specs.Range.{no_fault}
+use Rattle.std.specs.Prelude.{Option, Some, None, Result, Ok, Err}
 use Rattle.endian.specs.Place.{size_of, program_header}
 use Rattle.endian.specs.declared.Class.{Class}
 use Rattle.endian.specs.declared.Class.TheVariants.{Elf32, Elf64}
+use Rattle.endian.specs.declared.fault.Fault.{Fault}
 use Rattle.parse.specs.Entry.{count_of}
+use Rattle.parse.specs.declared.Range.{Range}
 use Rattle.elf_bytes.specs.Open.{open_of, Tabled}
 use Rattle.elf_bytes.specs.declared.Elf.{Elf}
-use Rattle.elf_bytes.specs.declared.Table.{Table}
-use Rattle.elf_bytes.specs.declared.Table.TheVariants.{Absent, At}
-use Rattle.elf_bytes.specs.declared.Opened.{Opened}
-use Rattle.elf_bytes.specs.declared.Opened.TheVariants as opened
 use Rattle.elf_bytes.proofs.Laws as open_laws
 use Rattle.load_rules.specs.Rules.{max_file}
 use Rattle.load_plan.specs.declared.Job.{Job}
-use Rattle.load_plan.specs.declared.Begun.TheVariants as begun
+use Rattle.load_plan.specs.declared.refusal.Refusal.TheVariants.{TooLong, NoSegments}
 use Rattle.load_plan.specs.Plan.{begun_of, begun_in, job_in, job_of}
 use Rattle.load_plan.specs.Facts.{Held}
 
@@ -56,27 +54,38 @@ count_short f j h =
     let m : j.count * 1 ≤ j.count * size_of program_header j.class = mul-le-mul_left j.count (omega (arith, size_bounds j.class)) in
     omega (arith, h.table_in_file)
 
+-- the table of an opened file lies in it
+pub tabled : (f : List ℕ) (elf : Elf) (r : Range) → open_of f ≡ Ok elf → elf.segments ≡ Some r → (r.from ≤ r.to) × (r.to ≤ length f)
+tabled f elf r p q = rw q at (open_laws.opened f elf p).segments
+
 -- a file that is begun holds its program headers
-pub held : (f : List ℕ) (j : Job) → begun_of f ≡ begun.Is j → Held f j
+pub held_at : (f : List ℕ) (elf : Elf) (r : Range) (n : ℕ) → length f ≤ max_file → open_of f ≡ Ok elf → elf.segments ≡ Some r → n ≡ count_of (size_of program_header elf.class) (r.to - r.from)
+    → Held f (job_of elf r.from n)
+held_at f elf r n s p q e =
+    let t = tabled f elf r p q in
+    let c = count_fits (size_of program_header elf.class) (r.to - r.from) in
+    record { table_in_file = rw e (omega (arith, c, t)); short_file = s }
+
+pub held : (f : List ℕ) (j : Job) → begun_of f ≡ Ok j → Held f j
 unfolding begun_of
 held f j e = short (leb (length f) max_file) refl e
   where
     counted : (elf : Elf) (from n : ℕ) → from + n * size_of program_header elf.class ≤ length f → length f ≤ max_file → (b : Bool)
-        → cond b (begun.Refused no_fault) (begun.Is (job_of elf from n)) ≡ begun.Is j → Held f j
-    counted elf from n p s true q = let z : ◌≡◌ {A = ℕ} 0 1 = cc in absurd (omega arith)
+        → cond b (Err NoSegments) (Ok (job_of elf from n)) ≡ Ok j → Held f j
+    counted elf from n p s true q = cc
     counted elf from n p s false q = let z : job_of elf from n ≡ j = cc in rw (← z) (record { table_in_file = p; short_file = s })
 
-    tabled : (elf : Elf) (t : Table) → Tabled f t → length f ≤ max_file → job_in elf t ≡ begun.Is j → Held f j
-    tabled elf Absent w s q = let z : ◌≡◌ {A = ℕ} 0 1 = cc in absurd (omega arith)
-    tabled elf (At r) w s q =
+    at : (elf : Elf) (t : Option Range) → Tabled f t → length f ≤ max_file → job_in elf t ≡ Ok j → Held f j
+    at elf None w s q = cc
+    at elf (Some r) w s q =
         let n = count_of (size_of program_header elf.class) (r.to - r.from) in
         let p = count_fits (size_of program_header elf.class) (r.to - r.from) in
         counted elf r.from n (omega (arith, p, w.0, w.1)) s (eqb n 0) q
 
-    told : (o : Opened) → open_of f ≡ o → length f ≤ max_file → begun_in o ≡ begun.Is j → Held f j
-    told (opened.Refused x) p s q = let z : ◌≡◌ {A = ℕ} 0 1 = cc in absurd (omega arith)
-    told (opened.Is elf) p s q = tabled elf elf.segments (open_laws.opened f elf p).segments s q
+    told : (o : Result Elf Fault) → open_of f ≡ o → length f ≤ max_file → begun_in o ≡ Ok j → Held f j
+    told (Err x) p s q = cc
+    told (Ok elf) p s q = at elf elf.segments (open_laws.opened f elf p).segments s q
 
-    short : (b : Bool) → leb (length f) max_file ≡ b → cond b (begun_in (open_of f)) (begun.Refused no_fault) ≡ begun.Is j → Held f j
+    short : (b : Bool) → leb (length f) max_file ≡ b → cond b (begun_in (open_of f)) (Err TooLong) ≡ Ok j → Held f j
     short true p q = told (open_of f) refl (leb-true _ _ p) q
-    short false p q = let z : ◌≡◌ {A = ℕ} 0 1 = cc in absurd (omega arith)
+    short false p q = cc

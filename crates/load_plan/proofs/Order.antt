@@ -10,22 +10,22 @@ use mathlib.Core.List.{List}
 use mathlib.Core.Logic.{⊎_elim}
 use borrow.Author.Tests.{lt-ltb, le-ltb}
 use Rattle.segment.specs.declared.ProgramHeader.{ProgramHeader}
-use Rattle.load_rules.specs.Rules.{any_below, real, outside, good_window, low, down, up, first}
+use Rattle.load_rules.specs.Rules.{real, outside, good_window, low, down, up, first}
 use Rattle.load_rules.specs.Facts.{Placed}
 use Rattle.load_rules.specs.declared.Window.{Window}
 use Rattle.load_rules.proofs.Tests.{none_at}
 use Rattle.load_rules.proofs.Pages.{placed, down_from, up_from}
 use Rattle.load_plan.specs.declared.Job.{Job}
-use Rattle.load_plan.specs.Plan.{seg_at, test, test_at}
+use Rattle.load_plan.specs.Plan.{seg_at, passes, some}
 use Rattle.load_plan.specs.Facts.{count_below, end_below, crossed}
 
 -- a segment that counts lies in the window, once none is outside
-pub placed_at : (f : List ℕ) (j : Job) (w : Window) (l k n : ℕ) (s : ProgramHeader) → l ≡ low j.kind w → s ≡ seg_at f j k → real s ≡ true → good_window w ≡ true
-    → any_below (test_at f j w 24) n ≡ false → k < n → Placed l w s
-unfolding test_at test
-placed_at f j w l k n s el es r g none lt =
-    let o : outside (low j.kind w) w.len s ≡ false = ap (outside (low j.kind w) w.len) es ∙ none_at (test_at f j w 24) n k none lt in
-    rw el (placed j.kind w s r g o)
+pub placed_at : (f : List ℕ) (j : Job) (w : Window) (l k : ℕ) (s : ProgramHeader) → l ≡ low j.kind w → s ≡ seg_at f j k → real s ≡ true → good_window w ≡ true
+    → some f j (outside l w.len) ≡ false → k < j.count → Placed l w s
+unfolding passes
+placed_at f j w l k s el es r g none lt =
+    let o : outside l w.len s ≡ false = ap (outside l w.len) es ∙ none_at (passes (outside l w.len) (seg_at f j)) j.count k none lt in
+    rw el (placed j.kind w s r g (rw el at o))
 
 -- at a segment that counts and at one that does not
 module _ (seg : ℕ → ProgramHeader) (l k end : ℕ) (s : ProgramHeader) (e : s ≡ seg k) where
@@ -49,6 +49,7 @@ module _ (seg : ℕ → ProgramHeader) (l k end : ℕ) (s : ProgramHeader) (e : 
   unfolding crossed
   crossed_no r p h i le = rw (← e) (rw r (le-ltb (first s) (end_below seg l k) (omega (arith, down_from l s.vaddr p h))))
 
+module _ (seg : ℕ → ProgramHeader) (k : ℕ) (s : ProgramHeader) (e : s ≡ seg k) where
   pub count_real : real s ≡ true → count_below seg k + 1 ≡ count_below seg (k + 1)
   unfolding count_below
   count_real r = rw (add-one k) (rw (← e) (rw r))

@@ -1,7 +1,7 @@
 -- No file is refused but for a listed reason, and the number is the smallest that applies; 14 comes last.
 -- A stricter list of tests accepts only what a shorter one accepts.
 -- Assumes nothing.
-use Prim.Native.Nat.{ℕ, ◌*◌, ◌≤◌, ◌<◌}
+use Prim.Native.Nat.{ℕ, ◌*◌, ◌≤◌}
 use native.Mathlib.Nat.{le_trans}
 use native.Mathlib.Omega.{arith}
 use mathlib.Core.Path.{◌≡◌, refl, sym, ◌∙◌}
@@ -10,60 +10,66 @@ use mathlib.Core.List.{List, [], ◌∷◌, ◌++◌}
 use mathlib.Core.Logic.{◌⊎◌, inl, inr, ⊎_elim}
 use lib.ListN.{length}
 use lib.Dec.{ltb}
+use Rattle.std.specs.Prelude.{Ok, Err}
 use Rattle.load_rules.specs.declared.Window.{Window}
+use Rattle.load_plan.specs.Refusal.{number_of}
 use Rattle.load_plan.specs.declared.Job.{Job}
-use Rattle.load_plan.specs.Plan.{first_of, tests, plan_in, number_of}
+use Rattle.load_plan.specs.declared.refusal.Refusal.{Refusal}
+use Rattle.load_plan.specs.declared.refusal.Refusal.TheVariants.{ShortTable}
+use Rattle.load_plan.specs.Plan.{first_of, tests, plan_in, verdict_of}
 use Rattle.load_plan.specs.Reason.{Holds, Ascends}
 
--- the number of a list is that of a test that holds
-pub first_holds : (ts : List (Bool × ℕ)) → 0 < first_of ts → Holds ts (first_of ts)
-first_holds [] h = omega arith
-first_holds (t ∷ ts) h = go (first_holds ts) t.0 refl h
+-- the refusal of a list is that of a test that holds
+pub first_holds : (ts : List (Bool × Refusal)) (r : Refusal) → first_of ts ≡ Err r → Holds ts r
+first_holds [] r h = cc
+first_holds (t ∷ ts) r h = go (first_holds ts r) t.0 refl h
   where
-    go : (0 < first_of ts → Holds ts (first_of ts)) → (b : Bool) → t.0 ≡ b → 0 < cond b t.1 (first_of ts) → ((t.0 ≡ true) × (t.1 ≡ cond b t.1 (first_of ts))) ⊎ Holds ts (cond b t.1 (first_of ts))
-    go ih true e p = inl (e, refl)
+    go : (first_of ts ≡ Err r → Holds ts r) → (b : Bool) → t.0 ≡ b → cond b (Err t.1) (first_of ts) ≡ Err r → ((t.0 ≡ true) × (t.1 ≡ r)) ⊎ Holds ts r
+    go ih true e p = inl (e, cc)
     go ih false e p = inr (ih p)
 
-above : (m : ℕ) (ts : List (Bool × ℕ)) (n : ℕ) → Ascends m ts → Holds ts n → m ≤ n
-above m [] n p q = absurd q
-above m (t ∷ ts) n p q = ⊎_elim (λ x. omega (arith, p.0, x.1)) (λ x. le_trans p.0 (above t.1 ts n p.1 x)) q
+above : (m : ℕ) (ts : List (Bool × Refusal)) (r : Refusal) → Ascends m ts → Holds ts r → m ≤ number_of r
+above m [] r p q = absurd q
+above m (t ∷ ts) r p q = ⊎_elim (λ x. rw (← x.1) p.0) (λ x. le_trans p.0 (above (number_of t.1) ts r p.1 x)) q
 
--- and the smallest, where the numbers ascend, whatever comes behind the list
-pub first_least : (m : ℕ) (ts us : List (Bool × ℕ)) (n : ℕ) → Ascends m ts → Holds ts n → (m ≤ first_of (ts ++ us)) × (first_of (ts ++ us) ≤ n)
-first_least m [] us n a h = absurd h
-first_least m (t ∷ ts) us n a h = go (first_least t.1 ts us n a.1) t.0 refl h
+-- and of the smallest number, where the numbers ascend, whatever comes behind the list
+pub first_least : (m : ℕ) (ts us : List (Bool × Refusal)) (r : Refusal) → Ascends m ts → Holds ts r
+    → (q : Refusal) × (first_of (ts ++ us) ≡ Err q) × (m ≤ number_of q) × (number_of q ≤ number_of r)
+first_least m [] us r a h = absurd h
+first_least m (t ∷ ts) us r a h = go (first_least (number_of t.1) ts us r a.1) t.0 refl h
   where
-    go : (Holds ts n → (t.1 ≤ first_of (ts ++ us)) × (first_of (ts ++ us) ≤ n)) → (b : Bool) → t.0 ≡ b → ((t.0 ≡ true) × (t.1 ≡ n)) ⊎ Holds ts n
-        → (m ≤ cond b t.1 (first_of (ts ++ us))) × (cond b t.1 (first_of (ts ++ us)) ≤ n)
-    go ih true e q = (a.0, ⊎_elim (λ x. omega (arith, x.1)) (λ x. above t.1 ts n a.1 x) q)
-    go ih false e q = ⊎_elim
+    go : (Holds ts r → (q : Refusal) × (first_of (ts ++ us) ≡ Err q) × (number_of t.1 ≤ number_of q) × (number_of q ≤ number_of r)) → (b : Bool) → t.0 ≡ b → ((t.0 ≡ true) × (t.1 ≡ r)) ⊎ Holds ts r
+        → (q : Refusal) × (cond b (Err t.1) (first_of (ts ++ us)) ≡ Err q) × (m ≤ number_of q) × (number_of q ≤ number_of r)
+    go ih true e h = (t.1, refl, a.0, ⊎_elim (λ x. rw x.1 (omega arith)) (λ x. above (number_of t.1) ts r a.1 x) h)
+    go ih false e h = ⊎_elim
         (λ x. absurd (true≢false (sym x.0 ∙ e)))
-        (λ x. let r = ih x in (le_trans a.0 r.0, r.1))
-        q
+        (λ x. let s = ih x in (s.0, s.1, le_trans a.0 s.2, s.3))
+        h
 
 ascending : (f : List ℕ) (j : Job) (w : Window) → Ascends 21 (tests f j w)
 unfolding tests
 ascending f j w = (omega arith, (omega arith, (omega arith, (omega arith, (omega arith, (omega arith, (omega arith, (omega arith, tt))))))))
 
--- a test of number n holds: the file is refused, and with no larger number
-pub smallest : (f : List ℕ) (j : Job) (w : Window) (room n : ℕ) → Holds (tests f j w) n → (21 ≤ number_of f j w room) × (number_of f j w room ≤ n)
-unfolding number_of
-smallest f j w room n h = first_least 21 (tests f j w) ((ltb room (48 * length (plan_in f w j)), 14) ∷ []) n (ascending f j w) h
+-- a test that stands for r holds: the file is refused, and with no larger number
+pub smallest : (f : List ℕ) (j : Job) (w : Window) (room : ℕ) (r : Refusal) → Holds (tests f j w) r
+    → (q : Refusal) × (verdict_of f j w room ≡ Err q) × (21 ≤ number_of q) × (number_of q ≤ number_of r)
+unfolding verdict_of
+smallest f j w room r h = first_least 21 (tests f j w) ((ltb room (48 * length (plan_in f w j)), ShortTable) ∷ []) r (ascending f j w) h
 
 -- a refusal has a reason
-pub reason : (f : List ℕ) (j : Job) (w : Window) (room : ℕ) → 0 < number_of f j w room → Holds (tests f j w ++ ((ltb room (48 * length (plan_in f w j)), 14) ∷ [])) (number_of f j w room)
-unfolding number_of
-reason f j w room h = first_holds (tests f j w ++ ((ltb room (48 * length (plan_in f w j)), 14) ∷ [])) h
+pub reason : (f : List ℕ) (j : Job) (w : Window) (room : ℕ) (r : Refusal) → verdict_of f j w room ≡ Err r → Holds (tests f j w ++ ((ltb room (48 * length (plan_in f w j)), ShortTable) ∷ [])) r
+unfolding verdict_of
+reason f j w room r h = first_holds (tests f j w ++ ((ltb room (48 * length (plan_in f w j)), ShortTable) ∷ [])) r h
 
 -- for a stricter mode: a file that a list of tests with one more test accepts is accepted without it
-pub fewer_tests : (a b : List (Bool × ℕ)) (t : Bool × ℕ) → 0 < t.1 → first_of (a ++ (t ∷ b)) ≡ 0 → first_of (a ++ b) ≡ 0
-fewer_tests [] b t p h = go t.0 h
+pub fewer_tests : (a b : List (Bool × Refusal)) (t : Bool × Refusal) → first_of (a ++ (t ∷ b)) ≡ Ok tt → first_of (a ++ b) ≡ Ok tt
+fewer_tests [] b t h = go t.0 h
   where
-    go : (x : Bool) → cond x t.1 (first_of b) ≡ 0 → first_of b ≡ 0
-    go true e = absurd (omega arith)
+    go : (x : Bool) → cond x (Err t.1) (first_of b) ≡ Ok tt → first_of b ≡ Ok tt
+    go true e = cc
     go false e = e
-fewer_tests (u ∷ a) b t p h = go u.0 (fewer_tests a b t p) h
+fewer_tests (u ∷ a) b t h = go (fewer_tests a b t) u.0 h
   where
-    go : (x : Bool) → (first_of (a ++ (t ∷ b)) ≡ 0 → first_of (a ++ b) ≡ 0) → cond x u.1 (first_of (a ++ (t ∷ b))) ≡ 0 → cond x u.1 (first_of (a ++ b)) ≡ 0
-    go true ih e = e
-    go false ih e = ih e
+    go : (first_of (a ++ (t ∷ b)) ≡ Ok tt → first_of (a ++ b) ≡ Ok tt) → (x : Bool) → cond x (Err u.1) (first_of (a ++ (t ∷ b))) ≡ Ok tt → cond x (Err u.1) (first_of (a ++ b)) ≡ Ok tt
+    go ih true e = cc
+    go ih false e = ih e

@@ -1,24 +1,28 @@
-// The load plan of a file: the number of the refusal, or the records of its segments in a lent table.
+// The load plan of a file: its refusal, or the records of its segments in a lent table.
 // The file is opened once; then each test walks the program headers, so that the smallest number that applies decides,
 // and a file that is refused leaves the table as it was.
 #![tactic(auto)]
 
-ghost use Rattle.std.specs.Prelude.{◌≡◌, true, false, not, ◌||◌, ◌+◌, ◌*◌, ◌<◌, ◌≤◌, length, eqb, ltb};
-ghost use Rattle.elf_bytes.specs.Open.{Tabled};
-ghost use Rattle.load_rules.specs.Rules.{any_below, good_window};
-ghost use Rattle.load_plan.specs.Plan.{begun_of, job_in, seg_at, test, test_at, clash_at, other, plan_in, number_of, window_of, Made};
-ghost use Rattle.load_plan.specs.Facts.{Held, Accepted, Filled, count_below, late_number};
+mod refusal;
 
-use elf_bytes::{Elf, Opened, Table};
-use endian::{Class, Fault, Order};
-use load_rules::Window;
+ghost use Rattle.std.specs.Prelude.{◌≡◌, Bool, true, false, ◌+◌, ◌*◌, ◌<◌, ◌≤◌, ltb, length, Ok, Err, MatchResult};
+ghost use Rattle.load_rules.specs.Rules.{any_below, outside, good_window, low};
+ghost use Rattle.load_rules.specs.declared.Window.{Window};
+ghost use Rattle.segment.specs.declared.ProgramHeader.{ProgramHeader};
+ghost use Rattle.load_plan.specs.Plan.{begun_of, seg_at, some, clash_at, plan_in, verdict_of, window_of, Made};
+ghost use Rattle.load_plan.specs.Facts.{Held, Accepted, Filled, count_below};
+
+use endian::{Class, Order};
+use load_rules::{View, Window};
+use parse::ParseAt;
+pub use refusal::Refusal;
 use segment::ProgramHeader;
 
 // The longest file: 1 GiB.
-const MAX_FILE: usize = 1073741824;
+const MAX_FILE: usize = 1 << 30;
 
 // What the plan asks of an opened file: its type and entry point, and where its program headers stand.
-#[derive(Clone, Copy)]
+#[derive(Clone, Copy, Debug, PartialEq, Eq)]
 pub struct Job {
     pub class: Class,
     pub order: Order,
@@ -28,258 +32,180 @@ pub struct Job {
     pub count: usize,
 }
 
+// A file that is begun: it is not too long, and its program headers lie in it.
 #[derive(Clone, Copy)]
-pub enum Begun {
-    Is(Job),
-    Refused(Fault),
+pub struct Begun<'a> {
+    pub file: &'a [u8],
+    pub job: Job,
+    ghost held: { Held file.now job },
 }
 
-// A refusal: its number, and with 20 what the reader says.
-#[derive(Clone, Copy)]
-pub struct Refusal {
-    pub number: u8,
-    pub reader: Fault,
-}
-
-#[derive(Clone, Copy)]
-pub enum Answer {
-    Planned(usize),
-    Refused(Refusal),
-}
-
-// The segments of an opened file: none, or a table of 0, is refused.
-fn job_of(f: &[u8], elf: Elf) -> Begun
-    requires { Tabled f.now elf.segments }
-    ensures { result ≡ job_in elf elf.segments }
-{
-    let t = elf.segments;
-    match t {
-        Table::Absent => Begun::Refused(Fault { number: 0 }),
-        Table::At(r) => {
-            let class = elf.class;
-            let order = elf.order;
-            let n = parse::count(segment::size_of(class), r.to - r.from);
-            if n == 0 {
-                return Begun::Refused(Fault { number: 0 });
-            }
-            Begun::Is(Job {
-                class: class,
-                order: order,
-                kind: elf.kind,
-                entry: elf.entry,
-                from: r.from,
-                count: n,
-            })
+impl<'a> Begun<'a> {
+    // Opens a file that is not too long. No segments, or a table of 0, is refused.
+    #[tactic(auto, unfolding(crate::specs::Plan::begun_of), using(crate::proofs::Opening::tabled))]
+    pub fn open(file: &'a [u8]) -> Result<Begun<'a>, Refusal>
+        ensures { MatchResult result
+            (λ b. (b.file.now ≡ file.now) × (begun_of file.now ≡ Ok b.job))
+            (λ r. begun_of file.now ≡ Err r) }
+    {
+        if file.len() > MAX_FILE {
+            return Err(Refusal::TooLong);
         }
-    }
-}
-
-// Opens a file that is not too long.
-pub fn begin(f: &[u8]) -> Begun
-    ensures { result ≡ begun_of f.now }
-{
-    if f.len() <= MAX_FILE {
-        let o = elf_bytes::open(f);
-        match o {
-            Opened::Refused(x) => Begun::Refused(x),
-            Opened::Is(elf) => job_of(f, elf),
+        let elf = elf_bytes::open(file)?;
+        let table = elf.segments.ok_or(Refusal::NoSegments)?;
+        let count = parse::count(ProgramHeader::size_of(elf.class), table.to - table.from);
+        if count == 0 {
+            return Err(Refusal::NoSegments);
         }
-    } else {
-        Begun::Refused(Fault { number: 0 })
+        let job = Job {
+            class: elf.class,
+            order: elf.order,
+            kind: elf.kind,
+            entry: elf.entry,
+            from: table.from,
+            count,
+        };
+        Ok(Begun { file, job })
     }
-}
 
-// The k-th program header.
-pub fn header_at(f: &[u8], j: Job, k: usize) -> ProgramHeader
-    requires { Held f.now j × (k < j.count) }
-    ensures { result ≡ seg_at f.now j k }
-{
-    let class = j.class;
-    let order = j.order;
-    let size = segment::size_of(class);
-    segment::segment_in(class, order, f, j.from + k * size)
-}
+    // The k-th program header.
+    #[tactic(auto, unfolding(crate::specs::Plan::seg_at), using(crate::proofs::Opening::seg_in))]
+    pub fn header(&self, k: usize) -> ProgramHeader
+        requires { k < self.now.job.count }
+        ensures { result ≡ seg_at self.now.file.now self.now.job k }
+    {
+        let Job {
+            class,
+            order,
+            from,
+            ..
+        } = self.job;
+        parse::entry_in(
+            class,
+            order,
+            self.file,
+            from + k * ProgramHeader::size_of(class),
+        )
+    }
 
-// The test of number d of one segment.
-fn tested(d: u8, len: u64, j: Job, w: Window, s: ProgramHeader) -> bool
-    ensures { result ≡ test d len j w s }
-{
-    if d == 22 {
-        return load_rules::is_unfit(len, s);
-    }
-    if d == 23 {
-        return load_rules::is_skewed(s);
-    }
-    if d == 24 {
-        return load_rules::is_outside(load_rules::low_of(j.kind, w), w.len, s);
-    }
-    if d == 26 {
-        return load_rules::is_write_exec(s);
-    }
-    load_rules::has_entry(j.entry, s)
-}
-
-// Does the test of number d hold of a segment?
-fn any(f: &[u8], j: Job, w: Window, d: u8) -> bool
-    requires { Held f.now j }
-    ensures { result ≡ any_below (test_at f.now j w d) j.count }
-{
-    let len = f.len() as u64;
-    let n = j.count;
-    let mut k = 0;
-    while k < n {
-        let s = header_at(f, j, k);
-        if tested(d, len, j, w, s) {
-            return true;
-        }
-        k += 1;
-    }
-    false
-}
-
-// The number of segments that are loaded.
-fn count(f: &[u8], j: Job) -> usize
-    requires { Held f.now j }
-    ensures { result ≡ count_below (seg_at f.now j) j.count }
-{
-    let n = j.count;
-    let mut c = 0;
-    let mut k = 0;
-    while k < n {
-        if load_rules::is_real(header_at(f, j, k)) {
-            c += 1;
-        }
-        k += 1;
-    }
-    c
-}
-
-// Does a segment clash with one before it? In one pass: its pages start before the end of those before it.
-fn out_of_order(f: &[u8], j: Job, w: Window) -> bool
-    requires held { Held f.now j }
-    requires window { good_window w ≡ true }
-    requires inside { any_below (test_at f.now j w 24) j.count ≡ false }
-    ensures { result ≡ any_below (clash_at (seg_at f.now j)) j.count }
-{
-    let n = j.count;
-    let l = load_rules::low_of(j.kind, w);
-    let mut end = 0;
-    let mut k = 0;
-    while k < n {
-        let s = header_at(f, j, k);
-        if load_rules::is_real(s) {
-            if load_rules::first_page(s, l) < end {
+    // Does the test hold of a segment? `(0..n).any(..)` would need clauses at its closure, and be no plainer.
+    fn any<P: Fn(ProgramHeader) -> bool>(&self, test: P) -> bool
+        requires { P.IsAlwaysCallable test }
+        ensures { (p : ProgramHeader → Bool) → ((s : ProgramHeader) (r : Bool) → P.post test s r → r ≡ p s)
+            → result ≡ some self.now.file.now self.now.job p }
+    {
+        for k in 0..self.job.count {
+            if test(self.header(k)) {
                 return true;
             }
-            end = load_rules::last_page(s, l);
         }
-        k += 1;
+        false
     }
-    false
-}
 
-fn is_other(j: Job) -> bool
-    ensures { result ≡ other j.kind }
-{
-    !((j.kind == 2) | (j.kind == 3))
-}
-
-fn is_short(f: &[u8], j: Job, w: Window, room: usize) -> bool
-    requires { Held f.now j }
-    ensures { result ≡ ltb room (48 * length (plan_in f.now w j)) }
-{
-    room < 48 * count(f, j)
-}
-
-// The tests behind the window's, in their order: the number of the first that holds, or 0.
-fn refuse_late(f: &[u8], j: Job, w: Window, room: usize) -> u8
-    requires { Held f.now j × (good_window w ≡ true) }
-    ensures { result ≡ late_number f.now j w room }
-{
-    if any(f, j, w, 24) {
-        return 24;
-    }
-    if out_of_order(f, j, w) {
-        return 25;
-    }
-    if any(f, j, w, 26) {
-        return 26;
-    }
-    if any(f, j, w, 27) {
-        if is_short(f, j, w, room) {
-            return 14;
+    // The number of segments that are loaded.
+    #[tactic(auto, unfolding(crate::specs::Facts::count_below), using(crate::proofs::Order::count_real, crate::proofs::Order::count_skip))]
+    fn count(&self) -> usize
+        ensures { result ≡ count_below (seg_at self.now.file.now self.now.job) self.now.job.count }
+    {
+        let mut n = 0;
+        for k in 0..self.job.count {
+            if load_rules::is_real(self.header(k)) {
+                n += 1;
+            }
         }
-        return 0;
+        n
     }
-    27
-}
 
-// The number of the refusal, or 0.
-fn refuse(f: &[u8], j: Job, w: Window, room: usize) -> u8
-    requires { Held f.now j }
-    ensures { result ≡ number_of f.now j w room }
-{
-    if is_other(j) {
-        return 21;
+    // Has a table of so many bytes no room for the records? They are as many in every window.
+    #[tactic(auto, using(crate::proofs::Table::short_table))]
+    fn is_short(&self, room: usize) -> bool
+        ensures { (w : Window) → result ≡ ltb room (48 * length (plan_in self.now.file.now w self.now.job)) }
+    {
+        room / 48 < self.count()
     }
-    if any(f, j, w, 22) {
-        return 22;
-    }
-    if any(f, j, w, 23) {
-        return 23;
-    }
-    if load_rules::is_good(w) {
-        return refuse_late(f, j, w, room);
-    }
-    24
-}
 
-// Writes the records of an accepted file, and returns how many they are.
-fn fill(f: &[u8], j: Job, w: Window, table: &mut [u8]) -> usize
-    requires { Accepted f.now j w (length table.old) }
-    ensures { Filled (plan_in f.now w j) table.old table.new result }
-{
-    let n = j.count;
-    let l = load_rules::low_of(j.kind, w);
-    let mut c = 0;
-    let mut at = 0;
-    let mut k = 0;
-    while k < n {
-        let s = header_at(f, j, k);
-        if load_rules::is_real(s) {
-            records::put_record(table, at, load_rules::record_of(s, w, l));
-            at += 48;
-            c += 1;
+    // Does a segment clash with one before it? In one pass: its pages start before the end of those before it.
+    fn is_out_of_order(&self, view: View) -> bool
+        requires window { good_window view.window ≡ true }
+        requires low { view.low ≡ low self.now.job.kind view.window }
+        requires inside { some self.now.file.now self.now.job (outside view.low view.window.len) ≡ false }
+        ensures { result ≡ any_below (clash_at (seg_at self.now.file.now self.now.job)) self.now.job.count }
+    {
+        let mut end = 0;
+        for k in 0..self.job.count {
+            let s = self.header(k);
+            if load_rules::is_real(s) {
+                if view.first_page(s) < end {
+                    return true;
+                }
+                end = view.last_page(s);
+            }
         }
-        k += 1;
+        false
     }
-    c
+
+    // The tests in their order: the first that holds refuses the file.
+    #[tactic(auto, unfolding(crate::specs::Plan::verdict_of, crate::specs::Plan::tests))]
+    fn test(&self, w: Window, room: usize) -> Result<(), Refusal>
+        ensures { result ≡ verdict_of self.now.file.now self.now.job w room }
+    {
+        let Job { kind, entry, .. } = self.job;
+        let len = self.file.len() as u64;
+        let view = w.view(kind);
+        if kind != 2 && kind != 3 {
+            return Err(Refusal::OtherKind);
+        }
+        if self.any(|s| load_rules::is_unfit(len, s)) {
+            return Err(Refusal::Unfit);
+        }
+        if self.any(load_rules::is_skewed) {
+            return Err(Refusal::Skewed);
+        }
+        if !w.is_good() {
+            return Err(Refusal::Outside);
+        }
+        if self.any(|s| view.is_outside(s)) {
+            return Err(Refusal::Outside);
+        }
+        if self.is_out_of_order(view) {
+            return Err(Refusal::Clash);
+        }
+        if self.any(load_rules::is_write_exec) {
+            return Err(Refusal::WriteExec);
+        }
+        if !self.any(|s| load_rules::has_entry(entry, s)) {
+            return Err(Refusal::NoEntry);
+        }
+        if self.is_short(room) {
+            return Err(Refusal::ShortTable);
+        }
+        Ok(())
+    }
+
+    // Writes the records of an accepted file, and returns how many they are.
+    fn fill(&self, w: Window, table: &mut [u8]) -> usize
+        requires { Accepted self.now.file.now self.now.job w (length table.old) }
+        ensures { Filled (plan_in self.now.file.now w self.now.job) table.old table.new result }
+    {
+        let view = w.view(self.job.kind);
+        let mut n = 0;
+        for k in 0..self.job.count {
+            let s = self.header(k);
+            if load_rules::is_real(s) {
+                view.record_of(s).put(table, 48 * n);
+                n += 1;
+            }
+        }
+        n
+    }
 }
 
 // The plan of a file: its records in the table, or the refusal, and the table untouched.
-pub fn plan(f: &[u8], start: u64, len: u64, table: &mut [u8]) -> Answer
-    ensures { Made f.now (window_of start len) table.old table.new result }
+pub fn plan(file: &[u8], start: u64, len: u64, table: &mut [u8]) -> Result<usize, Refusal>
+    ensures { Made file.now (window_of start len) table.old table.new result }
 {
-    let w = Window {
-        start: start,
-        len: len,
-    };
-    let b = begin(f);
-    match b {
-        Begun::Refused(x) => Answer::Refused(Refusal {
-            number: 20,
-            reader: x,
-        }),
-        Begun::Is(j) => {
-            let d = refuse(f, j, w, table.len());
-            if d == 0 {
-                let n = fill(f, j, w, table);
-                return Answer::Planned(n);
-            }
-            Answer::Refused(Refusal {
-                number: d,
-                reader: Fault { number: 0 },
-            })
-        }
-    }
+    let w = Window { start, len };
+    let begun = Begun::open(file)?;
+    begun.test(w, table.len())?;
+    Ok(begun.fill(w, table))
 }

@@ -1,55 +1,37 @@
 -- A good window and a segment inside it, as facts about numbers; pages counted from the window's start; the record.
 -- Assumes nothing.
-use Prim.Native.Nat.{ℕ, ◌+◌, ◌-◌, ◌%◌, ◌^◌, ◌≤◌, ◌<◌}
+use Prim.Native.Nat.{ℕ, ◌+◌, ◌-◌, ◌%◌, ◌≤◌, ◌<◌}
 use native.Mathlib.Omega.{arith}
-use mathlib.Core.Path.{◌≡◌, refl, sym, ap, ◌∙◌}
-use mathlib.Core.Bool.{Bool, true, false, not, ◌&&◌, cond}
-use lib.Dec.{leb, ltb, eqb}
-use borrow.Author.Tests.{leb-true, ltb-true, eqb-true}
+use mathlib.Core.Path.{◌≡◌}
+use mathlib.Core.Bool.{true, false}
+use Rattle.std.proofs.lemmas.Bool.Decides.{nat_tests}
 use Rattle.segment.specs.declared.ProgramHeader.{ProgramHeader}
 use Rattle.records.specs.declared.Record.{Record}
 use Rattle.load_rules.specs.declared.Window.{Window}
-use Rattle.load_rules.specs.Rules.{real, outside, good_window, low, down, up, first, last, record_of, max_window}
+use Rattle.load_rules.specs.Rules.{real, outside, good_window, low, down, up, first, last, record_of}
 use Rattle.load_rules.specs.Facts.{Good, Placed}
-use Rattle.load_rules.proofs.Tests.{and_true, nand_false}
 
 pub real_pos : (s : ProgramHeader) → real s ≡ true → 0 < s.memsz
-real_pos s r = ltb-true 0 s.memsz (and_true (eqb s.kind 1) (ltb 0 s.memsz) r).1
+real_pos s r = grind (arith, nat_tests)
 
 -- a real segment that is not outside
 inside : (l len : ℕ) (s : ProgramHeader) → real s ≡ true → outside l len s ≡ false → (l ≤ s.vaddr) × (s.vaddr - l + s.memsz ≤ len)
-inside l len s r o =
-    let x : Bool = not (leb l s.vaddr && leb (s.vaddr - l + s.memsz) len) in
-    let h : x ≡ false = ap (λ (b : Bool). b && x) (sym r) ∙ o in
-    let p = nand_false (leb l s.vaddr) (leb (s.vaddr - l + s.memsz) len) h in
-    (leb-true l s.vaddr p.0, leb-true (s.vaddr - l + s.memsz) len p.1)
+inside l len s r o = grind (arith, nat_tests)
 
 pub good : (w : Window) → good_window w ≡ true → Good w
 unfolding good_window
-good w h =
-    let p = and_true (eqb (w.start % 4096) 0 && eqb (w.len % 4096) 0) (leb w.len max_window && leb (w.start + w.len) (2 ^ 64)) h in
-    let q = and_true (eqb (w.start % 4096) 0) (eqb (w.len % 4096) 0) p.0 in
-    let r = and_true (leb w.len max_window) (leb (w.start + w.len) (2 ^ 64)) p.1 in
-    record {
-      start_page = eqb-true (w.start % 4096) 0 q.0;
-      len_page = eqb-true (w.len % 4096) 0 q.1;
-      len_small = leb-true w.len max_window r.0;
-      end_fits = leb-true (w.start + w.len) (2 ^ 64) r.1;
-    }
+good w h = record {
+  start_page = grind (arith, nat_tests);
+  len_page = grind (arith, nat_tests);
+  len_small = grind (arith, nat_tests);
+  end_fits = grind (arith, nat_tests);
+}
 
 low_page : (kind : ℕ) (w : Window) → w.start % 4096 ≡ 0 → low kind w % 4096 ≡ 0
-low_page kind w e = go (eqb kind 3)
-  where
-    go : (b : Bool) → cond b 0 w.start % 4096 ≡ 0
-    go true = refl
-    go false = e
+low_page kind w e = grind (arith, nat_tests)
 
 low_le : (kind : ℕ) (w : Window) → low kind w ≤ w.start
-low_le kind w = go (eqb kind 3)
-  where
-    go : (b : Bool) → cond b 0 w.start ≤ w.start
-    go true = omega arith
-    go false = omega arith
+low_le kind w = grind (arith, nat_tests)
 
 -- a segment that counts and passes test 24 lies in the window
 pub placed : (kind : ℕ) (w : Window) (s : ProgramHeader) → real s ≡ true → good_window w ≡ true → outside (low kind w) w.len s ≡ false → Placed (low kind w) w s

@@ -9,16 +9,9 @@ use lib.Dec.{eqb}
 use lib.Count.{ones, ones_in, ones_step, ones_cat}
 use lib.Pow.{pow_pos}
 use borrow.Author.Tests.{eq-eqb, ne_eqb, eqb-true, eqb-false}
+use Rattle.std.proofs.lemmas.Nat.{zero_from_ones}
 use Rattle.load_rules.specs.Rules.{any_below, power2}
 use Rattle.load_rules.proofs.Tests.{some_at, found}
-
-no_ones : (n a : ℕ) → a < 2 ^ n → ones a ≡ 0 → a ≡ 0
-no_ones zero a h e = omega arith
-no_ones (suc n) a h e =
-    let h' : a < 2 ^ n * 2 = rw pow-suc at h in
-    let s = ones_step a in
-    let q = no_ones n (a / 2) (omega arith) (omega arith) in
-    omega arith
 
 pub ones_of : (k : ℕ) → ones (2 ^ k) ≡ 1
 unfolding ones
@@ -43,7 +36,7 @@ one_of (suc n) a h e = pick (one_of n (a / 2)) (eqb (a % 2) 0) refl
     pick ih false q =
         let z = eqb-false (a % 2) 0 q in
         let y : a % 2 ≡ 1 = omega arith in
-        let r = no_ones n (a / 2) half (omega (arith, ones_step a)) in
+        let r = zero_from_ones (a / 2) (omega (arith, ones_step a)) in
         (0, omega arith, omega arith)
 
 pub one_bit : (a : ℕ) → a < 2 ^ 64 → eqb (ones a) 1 ≡ power2 a

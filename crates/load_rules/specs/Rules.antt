@@ -7,7 +7,7 @@
 -- good_window w           the window is one (24)
 -- record_of start l s     the record of a segment, for a window at start that the file's addresses see at l
 -- Assumes nothing.
-use Rattle.std.specs.Prelude.{ℕ, zero, suc, ◌+◌, ◌-◌, ◌*◌, ◌/◌, ◌%◌, ◌^◌, Bool, true, false, not, ◌&&◌, ◌||◌, cond, leb, ltb, eqb}
+use Rattle.std.specs.Prelude.{ℕ, zero, suc, ◌+◌, ◌-◌, ◌*◌, ◌/◌, ◌%◌, ◌^◌, Bool, false, not, ◌&&◌, ◌||◌, cond, leb, ltb, eqb}
 use Rattle.segment.specs.declared.ProgramHeader.{ProgramHeader}
 use Rattle.records.specs.declared.Record.{Record}
 use Rattle.load_rules.specs.declared.Window.{Window}

@@ -1,10 +1,15 @@
 // The functions of include/loadplan.h, by their C names: each asks one question of the crates below and puts the answer
 // into the caller's array. Nothing else is here.
+// Exports that differ only in the kind of entry are apart because C has no generic functions: each names its kind to one function.
 #![tactic(auto)]
 
 ghost use Rattle.std.specs.Prelude.{◌≡◌, length};
+ghost use Rattle.endian.specs.Range.{answer};
 ghost use Rattle.parse.specs.Entry.{range_at};
-ghost use Rattle.file.specs.Open.{header_of};
+ghost use Rattle.file.specs.Open.{said, header_of};
+ghost use Rattle.rows.specs.Row.{section_row, segment_row, symbol_row, rel_row, rela_row, dyn_row};
+ghost use Rattle.string_table.specs.Text.{text_fault, text_range};
+ghost use Rattle.string_table.specs.Utf8.{utf8_fault};
 ghost use Rattle.elf_bytes.specs.Open.{open_of};
 ghost use Rattle.contents.specs.Contents.{section_of, segment_of, data_of, typed_of, symbols_of};
 ghost use Rattle.contents.specs.Contents as contents;
@@ -12,13 +17,22 @@ ghost use Rattle.lookup.specs.Lookup.{names_of, by_name_of, symbol_table_of, dyn
 ghost use Rattle.common.specs.Common.{common_of};
 ghost use Rattle.hash.specs.Sysv.{sysv_hash};
 ghost use Rattle.load_plan.specs.Plan.{window_of};
-ghost use Rattle.load_image.specs.Carry.{CarriedOut};
-ghost use Rattle.replies.specs.Reply.{Told, kind_of, range_reply, table_reply, symbols_reply, pair_reply, found_reply, section_reply, segment_reply, opened_reply, common_reply};
-ghost use Rattle.loadplan.specs.Export.{text_in, utf8_in, head_in, find_in, section_in, segment_in, symbol_in, rel_in, rela_in, dyn_in, WalkTold, planned_of, PlanTold, LoadTold};
+ghost use Rattle.walks.specs.Walk as kinds;
+ghost use Rattle.replies.specs.Reply.{Told, range_row, table_row, symbols_row, pair_row, found_row, head_row, opening_of, opened_row, common_row};
+ghost use Rattle.loadplan.specs.Export.{entry_from, head_in, find_in, section_in, segment_in, symbol_in, rel_in, rela_in, dyn_in, WroteTold, WalkTold, planned_of, PlanTold, CarryTold, LoadTold};
 
+use dynamic::Dyn;
+use endian::Fault;
 use file::Ident;
-use load_plan::Answer;
-use walks::Kind;
+use hash::Head;
+use load_plan::Refusal;
+use parse::ParseAt;
+use relocation::{Rel, Rela};
+use replies::Opening;
+use rows::{PackedSymbol, Row};
+use section::SectionHeader;
+use segment::ProgramHeader;
+use symbol::Symbol;
 
 // A plan's answer.
 #[repr(C)]
@@ -33,37 +47,37 @@ pub struct Planned {
 
 #[unsafe(no_mangle)]
 pub extern "C" fn loadplan_open(file: &[u8], out: &mut [u64; 23]) -> u32
-    ensures { Told (opened_reply (header_of file.now) (open_of file.now)) out.old out.new result }
+    ensures { Told opened_row (opening_of (header_of file.now) (open_of file.now)) out.old out.new result }
 {
-    replies::put_opened(elf_bytes::open(file), file, out)
+    replies::tell(Opening::of(file), out, replies::opened_row)
 }
 
 #[unsafe(no_mangle)]
 pub extern "C" fn loadplan_section_at(file: &[u8], i: usize, out: &mut [u64; 10]) -> u32
-    ensures { Told (section_reply (section_of file.now i)) out.old out.new result }
+    ensures { Told section_row (section_of file.now i) out.old out.new result }
 {
-    replies::put_section(contents::section_at(file, i), out)
+    replies::tell(contents::section_at(file, i), out, SectionHeader::row)
 }
 
 #[unsafe(no_mangle)]
 pub extern "C" fn loadplan_segment_at(file: &[u8], i: usize, out: &mut [u64; 8]) -> u32
-    ensures { Told (segment_reply (segment_of file.now i)) out.old out.new result }
+    ensures { Told segment_row (segment_of file.now i) out.old out.new result }
 {
-    replies::put_segment(contents::segment_at(file, i), out)
+    replies::tell(contents::segment_at(file, i), out, ProgramHeader::row)
 }
 
 #[unsafe(no_mangle)]
 pub extern "C" fn loadplan_name_table(file: &[u8], out: &mut [u64; 3]) -> u32
-    ensures { Told (table_reply (names_of file.now)) out.old out.new result }
+    ensures { Told table_row (names_of file.now) out.old out.new result }
 {
-    replies::put_table(lookup::name_table(file), out)
+    replies::tell(lookup::name_table(file), out, replies::table_row)
 }
 
 #[unsafe(no_mangle)]
 pub extern "C" fn loadplan_section_by_name(file: &[u8], name: &[u8], out: &mut [u64; 2]) -> u32
-    ensures { Told (found_reply (by_name_of file.now name.now)) out.old out.new result }
+    ensures { Told found_row (by_name_of file.now name.now) out.old out.new result }
 {
-    replies::put_found(lookup::by_name(file, name), out)
+    replies::tell(lookup::by_name(file, name), out, replies::found_row)
 }
 
 #[unsafe(no_mangle)]
@@ -74,11 +88,12 @@ pub extern "C" fn loadplan_section_data(
     size: u64,
     out: &mut [u64; 2],
 ) -> u32
-    ensures { Told (range_reply (data_of (length file.now) kind offset size)) out.old out.new result }
+    ensures { Told range_row (data_of (length file.now) kind offset size) out.old out.new result }
 {
-    replies::put_range(
+    replies::tell(
         contents::section_data(file, kind, offset as usize, size as usize),
         out,
+        replies::range_row,
     )
 }
 
@@ -90,11 +105,12 @@ pub extern "C" fn loadplan_section_strings(
     size: u64,
     out: &mut [u64; 2],
 ) -> u32
-    ensures { Told (range_reply (typed_of (length file.now) 3 kind offset size)) out.old out.new result }
+    ensures { Told range_row (typed_of (length file.now) 3 kind offset size) out.old out.new result }
 {
-    replies::put_range(
+    replies::tell(
         contents::strings_data(file, kind, offset as usize, size as usize),
         out,
+        replies::range_row,
     )
 }
 
@@ -106,11 +122,12 @@ pub extern "C" fn loadplan_section_rels(
     size: u64,
     out: &mut [u64; 2],
 ) -> u32
-    ensures { Told (range_reply (typed_of (length file.now) 9 kind offset size)) out.old out.new result }
+    ensures { Told range_row (typed_of (length file.now) 9 kind offset size) out.old out.new result }
 {
-    replies::put_range(
+    replies::tell(
         contents::rels_data(file, kind, offset as usize, size as usize),
         out,
+        replies::range_row,
     )
 }
 
@@ -122,11 +139,12 @@ pub extern "C" fn loadplan_section_relas(
     size: u64,
     out: &mut [u64; 2],
 ) -> u32
-    ensures { Told (range_reply (typed_of (length file.now) 4 kind offset size)) out.old out.new result }
+    ensures { Told range_row (typed_of (length file.now) 4 kind offset size) out.old out.new result }
 {
-    replies::put_range(
+    replies::tell(
         contents::relas_data(file, kind, offset as usize, size as usize),
         out,
+        replies::range_row,
     )
 }
 
@@ -139,11 +157,12 @@ pub extern "C" fn loadplan_section_dynamic(
     entsize: u64,
     out: &mut [u64; 2],
 ) -> u32
-    ensures { Told (range_reply (contents.dynamic_of file.now kind offset size entsize)) out.old out.new result }
+    ensures { Told range_row (contents.dynamic_of file.now kind offset size entsize) out.old out.new result }
 {
-    replies::put_range(
+    replies::tell(
         contents::dynamic_data(file, kind, offset as usize, size as usize, entsize as usize),
         out,
+        replies::range_row,
     )
 }
 
@@ -156,9 +175,9 @@ pub extern "C" fn loadplan_section_symbols(
     entsize: u64,
     out: &mut [u64; 4],
 ) -> u32
-    ensures { Told (pair_reply (symbols_of file.now offset size link entsize)) out.old out.new result }
+    ensures { Told pair_row (symbols_of file.now offset size link entsize) out.old out.new result }
 {
-    replies::put_pair(
+    replies::tell(
         contents::symbols_data(
             file,
             offset as usize,
@@ -167,6 +186,7 @@ pub extern "C" fn loadplan_section_symbols(
             entsize as usize,
         ),
         out,
+        replies::pair_row,
     )
 }
 
@@ -177,43 +197,72 @@ pub extern "C" fn loadplan_segment_data(
     filesz: u64,
     out: &mut [u64; 2],
 ) -> u32
-    ensures { Told (range_reply (range_at (length file.now) offset filesz)) out.old out.new result }
+    ensures { Told range_row (range_at (length file.now) offset filesz) out.old out.new result }
 {
-    replies::put_range(
+    replies::tell(
         contents::segment_data(file, offset as usize, filesz as usize),
         out,
+        replies::range_row,
     )
 }
 
 #[unsafe(no_mangle)]
 pub extern "C" fn loadplan_symbol_table(file: &[u8], out: &mut [u64; 5]) -> u32
-    ensures { Told (symbols_reply (symbol_table_of file.now 2)) out.old out.new result }
+    ensures { Told symbols_row (symbol_table_of file.now 2) out.old out.new result }
 {
-    replies::put_symbols(lookup::symbol_table(file), out)
+    replies::tell(lookup::symbol_table(file), out, replies::symbols_row)
 }
 
 #[unsafe(no_mangle)]
 pub extern "C" fn loadplan_dynamic_symbol_table(file: &[u8], out: &mut [u64; 5]) -> u32
-    ensures { Told (symbols_reply (symbol_table_of file.now 11)) out.old out.new result }
+    ensures { Told symbols_row (symbol_table_of file.now 11) out.old out.new result }
 {
-    replies::put_symbols(lookup::dynamic_symbol_table(file), out)
+    replies::tell(
+        lookup::dynamic_symbol_table(file),
+        out,
+        replies::symbols_row,
+    )
 }
 
 #[unsafe(no_mangle)]
 pub extern "C" fn loadplan_dynamic(file: &[u8], out: &mut [u64; 3]) -> u32
-    ensures { Told (table_reply (dynamic_of file.now)) out.old out.new result }
+    ensures { Told table_row (dynamic_of file.now) out.old out.new result }
 {
-    replies::put_table(lookup::dynamic(file), out)
+    replies::tell(lookup::dynamic(file), out, replies::table_row)
 }
 
 #[unsafe(no_mangle)]
 pub extern "C" fn loadplan_common(file: &[u8], out: &mut [u64; 16]) -> u32
-    ensures { Told (common_reply (common_of file.now)) out.old out.new result }
+    ensures { Told common_row (common_of file.now) out.old out.new result }
 {
-    replies::put_common(common::common_data(file), out)
+    replies::tell(common::common_data(file), out, replies::common_row)
 }
 
 // ---- tables
+
+// Entry i of a table, in the class and the order that two numbers say.
+fn entry<E: ParseAt>(class: u8, order: u8, table: &[u8], i: usize) -> Result<E, Fault>
+    ensures { result ≡ entry_from E.size E.at table.now i (said class order) }
+{
+    let Ident { class, order } = Ident::said(class, order)?;
+    parse::entry(class, order, table, i)
+}
+
+// A walk in that class and order; nothing where they are none.
+fn walk<const N: usize, E: Row<N>>(
+    class: u8,
+    order: u8,
+    table: &[u8],
+    from: usize,
+    out: &mut [u64],
+) -> usize
+    ensures { WroteTold E.size N (λ c e t o. E.values (E.at c e t o)) table.now from out.old out.new result (said class order) }
+{
+    match Ident::said(class, order) {
+        Err(_) => 0,
+        Ok(Ident { class, order }) => walks::walk::<N, E>(class, order, table, from, out),
+    }
+}
 
 #[unsafe(no_mangle)]
 pub extern "C" fn loadplan_section(
@@ -223,13 +272,13 @@ pub extern "C" fn loadplan_section(
     i: usize,
     out: &mut [u64; 10],
 ) -> u32
-    ensures { Told (section_in table.now i (kind_of class order)) out.old out.new result }
+    ensures { Told section_row (section_in table.now i (said class order)) out.old out.new result }
 {
-    let k = replies::kind_of(class, order);
-    match k {
-        Ident::Refused(f) => f.number as u32,
-        Ident::Is(c, o) => replies::put_section(section::entry(c, o, table, i), out),
-    }
+    replies::tell(
+        entry::<SectionHeader>(class, order, table, i),
+        out,
+        SectionHeader::row,
+    )
 }
 
 #[unsafe(no_mangle)]
@@ -240,13 +289,13 @@ pub extern "C" fn loadplan_segment(
     i: usize,
     out: &mut [u64; 8],
 ) -> u32
-    ensures { Told (segment_in table.now i (kind_of class order)) out.old out.new result }
+    ensures { Told segment_row (segment_in table.now i (said class order)) out.old out.new result }
 {
-    let k = replies::kind_of(class, order);
-    match k {
-        Ident::Refused(f) => f.number as u32,
-        Ident::Is(c, o) => replies::put_segment(segment::entry(c, o, table, i), out),
-    }
+    replies::tell(
+        entry::<ProgramHeader>(class, order, table, i),
+        out,
+        ProgramHeader::row,
+    )
 }
 
 #[unsafe(no_mangle)]
@@ -257,13 +306,9 @@ pub extern "C" fn loadplan_symbol(
     i: usize,
     out: &mut [u64; 6],
 ) -> u32
-    ensures { Told (symbol_in table.now i (kind_of class order)) out.old out.new result }
+    ensures { Told symbol_row (symbol_in table.now i (said class order)) out.old out.new result }
 {
-    let k = replies::kind_of(class, order);
-    match k {
-        Ident::Refused(f) => f.number as u32,
-        Ident::Is(c, o) => replies::put_symbol(symbol::entry(c, o, table, i), out),
-    }
+    replies::tell(entry::<Symbol>(class, order, table, i), out, Symbol::row)
 }
 
 #[unsafe(no_mangle)]
@@ -274,13 +319,9 @@ pub extern "C" fn loadplan_rel(
     i: usize,
     out: &mut [u64; 3],
 ) -> u32
-    ensures { Told (rel_in table.now i (kind_of class order)) out.old out.new result }
+    ensures { Told rel_row (rel_in table.now i (said class order)) out.old out.new result }
 {
-    let k = replies::kind_of(class, order);
-    match k {
-        Ident::Refused(f) => f.number as u32,
-        Ident::Is(c, o) => replies::put_rel(relocation::rel_entry(c, o, table, i), out),
-    }
+    replies::tell(entry::<Rel>(class, order, table, i), out, Rel::row)
 }
 
 #[unsafe(no_mangle)]
@@ -291,13 +332,9 @@ pub extern "C" fn loadplan_rela(
     i: usize,
     out: &mut [u64; 4],
 ) -> u32
-    ensures { Told (rela_in table.now i (kind_of class order)) out.old out.new result }
+    ensures { Told rela_row (rela_in table.now i (said class order)) out.old out.new result }
 {
-    let k = replies::kind_of(class, order);
-    match k {
-        Ident::Refused(f) => f.number as u32,
-        Ident::Is(c, o) => replies::put_rela(relocation::rela_entry(c, o, table, i), out),
-    }
+    replies::tell(entry::<Rela>(class, order, table, i), out, Rela::row)
 }
 
 #[unsafe(no_mangle)]
@@ -308,13 +345,9 @@ pub extern "C" fn loadplan_dyn(
     i: usize,
     out: &mut [u64; 2],
 ) -> u32
-    ensures { Told (dyn_in table.now i (kind_of class order)) out.old out.new result }
+    ensures { Told dyn_row (dyn_in table.now i (said class order)) out.old out.new result }
 {
-    let k = replies::kind_of(class, order);
-    match k {
-        Ident::Refused(f) => f.number as u32,
-        Ident::Is(c, o) => replies::put_dyn(dynamic::entry(c, o, table, i), out),
-    }
+    replies::tell(entry::<Dyn>(class, order, table, i), out, Dyn::row)
 }
 
 #[unsafe(no_mangle)]
@@ -325,13 +358,9 @@ pub extern "C" fn loadplan_sections(
     from: usize,
     out: &mut [u64],
 ) -> usize
-    ensures { WalkTold Kind.Section table.now from out.old out.new result (kind_of class order) }
+    ensures { WalkTold kinds.Section table.now from out.old out.new result (said class order) }
 {
-    let k = replies::kind_of(class, order);
-    match k {
-        Ident::Refused(_) => 0,
-        Ident::Is(c, o) => walks::walk(Kind::Section, c, o, table, from, out),
-    }
+    walk::<10, SectionHeader>(class, order, table, from, out)
 }
 
 #[unsafe(no_mangle)]
@@ -342,13 +371,9 @@ pub extern "C" fn loadplan_segments(
     from: usize,
     out: &mut [u64],
 ) -> usize
-    ensures { WalkTold Kind.Segment table.now from out.old out.new result (kind_of class order) }
+    ensures { WalkTold kinds.Segment table.now from out.old out.new result (said class order) }
 {
-    let k = replies::kind_of(class, order);
-    match k {
-        Ident::Refused(_) => 0,
-        Ident::Is(c, o) => walks::walk(Kind::Segment, c, o, table, from, out),
-    }
+    walk::<8, ProgramHeader>(class, order, table, from, out)
 }
 
 #[unsafe(no_mangle)]
@@ -359,13 +384,9 @@ pub extern "C" fn loadplan_symbols(
     from: usize,
     out: &mut [u64],
 ) -> usize
-    ensures { WalkTold Kind.Symbol table.now from out.old out.new result (kind_of class order) }
+    ensures { WalkTold kinds.Symbol table.now from out.old out.new result (said class order) }
 {
-    let k = replies::kind_of(class, order);
-    match k {
-        Ident::Refused(_) => 0,
-        Ident::Is(c, o) => walks::walk(Kind::Symbol, c, o, table, from, out),
-    }
+    walk::<6, Symbol>(class, order, table, from, out)
 }
 
 #[unsafe(no_mangle)]
@@ -376,13 +397,9 @@ pub extern "C" fn loadplan_packed_symbols(
     from: usize,
     out: &mut [u64],
 ) -> usize
-    ensures { WalkTold Kind.Packed table.now from out.old out.new result (kind_of class order) }
+    ensures { WalkTold kinds.Packed table.now from out.old out.new result (said class order) }
 {
-    let k = replies::kind_of(class, order);
-    match k {
-        Ident::Refused(_) => 0,
-        Ident::Is(c, o) => walks::walk(Kind::Packed, c, o, table, from, out),
-    }
+    walk::<4, PackedSymbol>(class, order, table, from, out)
 }
 
 #[unsafe(no_mangle)]
@@ -393,13 +410,9 @@ pub extern "C" fn loadplan_rels(
     from: usize,
     out: &mut [u64],
 ) -> usize
-    ensures { WalkTold Kind.Rel table.now from out.old out.new result (kind_of class order) }
+    ensures { WalkTold kinds.Rel table.now from out.old out.new result (said class order) }
 {
-    let k = replies::kind_of(class, order);
-    match k {
-        Ident::Refused(_) => 0,
-        Ident::Is(c, o) => walks::walk(Kind::Rel, c, o, table, from, out),
-    }
+    walk::<3, Rel>(class, order, table, from, out)
 }
 
 #[unsafe(no_mangle)]
@@ -410,13 +423,9 @@ pub extern "C" fn loadplan_relas(
     from: usize,
     out: &mut [u64],
 ) -> usize
-    ensures { WalkTold Kind.Rela table.now from out.old out.new result (kind_of class order) }
+    ensures { WalkTold kinds.Rela table.now from out.old out.new result (said class order) }
 {
-    let k = replies::kind_of(class, order);
-    match k {
-        Ident::Refused(_) => 0,
-        Ident::Is(c, o) => walks::walk(Kind::Rela, c, o, table, from, out),
-    }
+    walk::<4, Rela>(class, order, table, from, out)
 }
 
 #[unsafe(no_mangle)]
@@ -427,27 +436,23 @@ pub extern "C" fn loadplan_dyns(
     from: usize,
     out: &mut [u64],
 ) -> usize
-    ensures { WalkTold Kind.Dyn table.now from out.old out.new result (kind_of class order) }
+    ensures { WalkTold kinds.Dyn table.now from out.old out.new result (said class order) }
 {
-    let k = replies::kind_of(class, order);
-    match k {
-        Ident::Refused(_) => 0,
-        Ident::Is(c, o) => walks::walk(Kind::Dyn, c, o, table, from, out),
-    }
+    walk::<2, Dyn>(class, order, table, from, out)
 }
 
 #[unsafe(no_mangle)]
 pub extern "C" fn loadplan_string(table: &[u8], offset: usize, out: &mut [u64; 2]) -> u32
-    ensures { Told (range_reply (text_in table.now offset)) out.old out.new result }
+    ensures { Told range_row (answer (text_fault table.now offset) (text_range table.now offset)) out.old out.new result }
 {
-    replies::put_range(string_table::text(table, offset), out)
+    replies::tell(string_table::text(table, offset), out, replies::range_row)
 }
 
 #[unsafe(no_mangle)]
 pub extern "C" fn loadplan_string_utf8(table: &[u8], offset: usize, out: &mut [u64; 2]) -> u32
-    ensures { Told (range_reply (utf8_in table.now offset)) out.old out.new result }
+    ensures { Told range_row (answer (utf8_fault table.now offset) (text_range table.now offset)) out.old out.new result }
 {
-    replies::put_range(string_table::utf8(table, offset), out)
+    replies::tell(string_table::utf8(table, offset), out, replies::range_row)
 }
 
 #[unsafe(no_mangle)]
@@ -457,15 +462,33 @@ pub extern "C" fn loadplan_sysv_hash(name: &[u8]) -> u32
     hash::sysv_hash(name)
 }
 
+// The table's order stands for a whole identification: its class is not asked.
+fn header(order: u8, table: &[u8]) -> Result<Head, Fault>
+    ensures { result ≡ head_in table.now (said 1 order) }
+{
+    let Ident { order, .. } = Ident::said(1, order)?;
+    hash::header(order, table)
+}
+
+fn find(
+    class: u8,
+    order: u8,
+    table: &[u8],
+    symbols: &[u8],
+    strings: &[u8],
+    name: &[u8],
+) -> Result<Option<usize>, Fault>
+    ensures { result ≡ find_in table.now symbols.now strings.now name.now (said class order) }
+{
+    let Ident { class, order } = Ident::said(class, order)?;
+    hash::find(class, order, table, symbols, strings, name)
+}
+
 #[unsafe(no_mangle)]
 pub extern "C" fn loadplan_hash_header(order: u8, table: &[u8], out: &mut [u64; 2]) -> u32
-    ensures { Told (head_in table.now (kind_of 1 order)) out.old out.new result }
+    ensures { Told head_row (head_in table.now (said 1 order)) out.old out.new result }
 {
-    let k = replies::kind_of(1, order);
-    match k {
-        Ident::Refused(f) => f.number as u32,
-        Ident::Is(_, o) => replies::put_head(hash::header(o, table), out),
-    }
+    replies::tell(header(order, table), out, replies::head_row)
 }
 
 #[unsafe(no_mangle)]
@@ -478,37 +501,31 @@ pub extern "C" fn loadplan_hash_find(
     name: &[u8],
     out: &mut [u64; 2],
 ) -> u32
-    ensures { Told (find_in table.now symbols.now strings.now name.now (kind_of class order)) out.old out.new result }
+    ensures { Told found_row (find_in table.now symbols.now strings.now name.now (said class order)) out.old out.new result }
 {
-    let k = replies::kind_of(class, order);
-    match k {
-        Ident::Refused(f) => f.number as u32,
-        Ident::Is(c, o) => replies::put_lookup(
-            hash::find(c, o, table, symbols, strings, name),
-            out,
-        ),
-    }
+    replies::tell(
+        find(class, order, table, symbols, strings, name),
+        out,
+        replies::found_row,
+    )
 }
 
 // ---- the load plan
 
-fn told(a: Answer) -> Planned
-    ensures { result ≡ planned_of a }
+fn told(answer: Result<usize, Refusal>) -> Planned
+    ensures { result ≡ planned_of answer }
 {
-    match a {
-        Answer::Planned(n) => Planned {
+    match answer {
+        Ok(n) => Planned {
             refusal: 0,
             reader: 0,
             records: n as u64,
         },
-        Answer::Refused(r) => {
-            let f = r.reader;
-            Planned {
-                refusal: r.number as u32,
-                reader: f.number as u32,
-                records: 0,
-            }
-        }
+        Err(refusal) => Planned {
+            refusal: u32::from(refusal),
+            reader: refusal.reader(),
+            records: 0,
+        },
     }
 }
 
@@ -533,16 +550,19 @@ pub extern "C" fn loadplan_carry_out(
     records: u64,
     memory: &mut [u8],
 ) -> u32
-    ensures { CarriedOut file.now (window_of window_start window_length) table.now records memory.old memory.new result }
+    ensures { CarryTold file.now (window_of window_start window_length) table.now records memory.old memory.new result }
 {
-    load_image::carry_out(
+    match load_image::carry_out(
         file,
         window_start,
         window_length,
         table,
         records as usize,
         memory,
-    ) as u32
+    ) {
+        Ok(()) => 0,
+        Err(refusal) => u32::from(refusal),
+    }
 }
 
 #[unsafe(no_mangle)]

@@ -2,312 +2,199 @@
 // Each public question opens the file itself. The `.._in` functions take an opened file, whose tables lie in it.
 #![tactic(auto)]
 
-ghost use Rattle.std.specs.Prelude.{◌≡◌, ◌≤◌, true};
-ghost use Rattle.parse.specs.declared.Found.{Found};
-ghost use Rattle.string_table.specs.Text.{last_zero, is_clean};
+ghost use Rattle.std.specs.Prelude.{◌≡◌, ◌+◌, ◌≤◌, true, length};
+ghost use Rattle.string_table.specs.Text.{is_clean};
 ghost use Rattle.string_table.specs.Noted.{Notes};
 ghost use Rattle.string_table.specs.Utf8.{well_formed};
-ghost use Rattle.elf_bytes.specs.Open.{Whole};
-ghost use Rattle.lookup.specs.Lookup.{table_of, name_index, names_at, names_in, names_of, text_named, first_named, by_name_with, by_name_in, by_name_of, first_section, first_segment, symbols_at, symbol_table_in, symbol_table_of, dynamic_at, segment_bytes, dynamic_segment, dynamic_in, dynamic_of};
+ghost use Rattle.elf_bytes.specs.Open.{Tabled};
+ghost use Rattle.lookup.specs.Lookup.{name_index, names_in, names_of, text_named, first_named, by_name_in, by_name_of, first_in, first_section, first_segment, symbols_at, symbol_table_in, symbol_table_of, dynamic_at, segment_bytes, dynamic_segment, dynamic_in, dynamic_of};
 
-use contents::{GotSymbols, Symbols};
-use elf_bytes::{Elf, GotTable, Opened, Table};
-use endian::{Fault, Order};
-use parse::{Found, GotRange};
-use section::GotSectionHeader;
-use segment::GotProgramHeader;
-
-#[derive(Clone, Copy)]
-pub enum GotFound {
-    Is(Found),
-    Refused(Fault),
-}
-
-#[derive(Clone, Copy)]
-enum GotIndex {
-    Is(usize),
-    Refused(Fault),
-}
-
-pub fn wide(x: u32) -> usize
-    ensures { result ≡ x }
-{
-    x as usize
-}
-
-pub fn table_of(g: GotRange) -> GotTable
-    ensures { result ≡ table_of g }
-{
-    match g {
-        GotRange::Refused(f) => GotTable::Refused(f),
-        GotRange::Is(r) => GotTable::Is(Table::At(r)),
-    }
-}
+use contents::{Asked, SymbolTable};
+use elf_bytes::ElfBytes;
+use endian::{Fault, Number, Order};
+use parse::{ParseAt, Range};
+use section::SectionHeader;
+use segment::ProgramHeader;
+use string_table::Strings;
 
 // ---- names of sections
 
 // Which section holds the names: ffff means the link field of section header 0.
 #[tactic(auto, unfolding(crate::specs::Lookup::name_index))]
-fn name_index(elf: Elf, d: &[u8]) -> GotIndex
-    requires { Whole d.now elf }
-    ensures { result ≡ name_index d.now elf }
+fn name_index(file: &ElfBytes) -> Result<usize, Fault>
+    ensures { result ≡ name_index file.now.bytes.now file.now.elf }
 {
-    let names = elf.names as usize;
-    if names == 65535 {
-        let g = contents::section_in(elf, d, 0);
-        match g {
-            GotSectionHeader::Refused(f) => {
-                return GotIndex::Refused(f);
-            }
-            GotSectionHeader::Is(h) => {
-                return GotIndex::Is(h.link as usize);
-            }
-        }
+    if file.elf.names == 0xffff {
+        let zero = contents::section_in(file, 0)?;
+        return Ok(zero.link as usize);
     }
-    GotIndex::Is(names)
+    Ok(file.elf.names as usize)
 }
 
-// The bytes of section i, as they stand in its header.
-fn names_at(elf: Elf, d: &[u8], i: usize) -> GotTable
-    requires { Whole d.now elf }
-    ensures { result ≡ names_at d.now elf i }
+// The bytes of that section, as they stand in its header; none if there are no sections or the index is 0.
+#[tactic(auto, unfolding(crate::specs::Lookup::names_in))]
+fn names_in(file: &ElfBytes) -> Result<Option<Range>, Fault>
+    ensures { result ≡ names_in file.now.bytes.now file.now.elf }
 {
-    let g = contents::section_in(elf, d, i);
-    match g {
-        GotSectionHeader::Refused(f) => GotTable::Refused(f),
-        GotSectionHeader::Is(h) => table_of(parse::range_at(
-            d.len(),
-            h.offset as usize,
-            h.size as usize,
-        )),
+    if file.elf.sections.is_none() || file.elf.names == 0 {
+        return Ok(None);
     }
-}
-
-// None if there are no sections or the index is 0.
-fn names_in(elf: Elf, d: &[u8]) -> GotTable
-    requires { Whole d.now elf }
-    ensures { result ≡ names_in d.now elf }
-{
-    let sections = elf.sections;
-    match sections {
-        Table::Absent => GotTable::Is(Table::Absent),
-        Table::At(_) => {
-            if elf.names == 0 {
-                return GotTable::Is(Table::Absent);
-            }
-            let g = name_index(elf, d);
-            match g {
-                GotIndex::Refused(f) => GotTable::Refused(f),
-                GotIndex::Is(i) => names_at(elf, d, i),
-            }
-        }
-    }
+    let i = name_index(file)?;
+    let h = contents::section_in(file, i)?;
+    let names = parse::range_at(file.bytes.len(), h.offset as usize, h.size as usize)?;
+    Ok(Some(names))
 }
 
 // The range of the table of section names in the file, or none.
-pub fn name_table(d: &[u8]) -> GotTable
+#[tactic(auto, unfolding(crate::specs::Lookup::names_of))]
+pub fn name_table(d: &[u8]) -> Result<Option<Range>, Fault>
     ensures { result ≡ names_of d.now }
 {
-    let o = elf_bytes::open(d);
-    match o {
-        Opened::Refused(f) => GotTable::Refused(f),
-        Opened::Is(elf) => names_in(elf, d),
-    }
+    names_in(&ElfBytes::open(d)?)
 }
 
 // ---- a section by its name
 
-// Whether the string at o is the name, which is UTF-8 and holds no zero byte: an offset behind the last zero byte has no string.
-fn is_named(strs: &[u8], last: usize, o: usize, name: &[u8], marks: &mut [u8]) -> bool
-    requires last_known { last_zero strs.now ≡ Found.At last }
+// Whether the string at o is the name, which is UTF-8 and holds no zero byte: clauses, since `same_noted` asks the second of a part
+// of a name too, which is no `Name`.
+#[tactic(auto, using(crate::proofs::Names::named_beyond, crate::proofs::Names::named_there, crate::proofs::Names::stays_noted))]
+fn is_named(strings: &Strings, o: usize, name: &[u8], marks: &mut [u8]) -> bool
     requires utf8 { well_formed name.now ≡ true }
     requires clean { is_clean name.now ≡ true }
-    requires noted_before { Notes strs.now name.now marks.old }
-    ensures answer { result ≡ text_named strs.now o name.now }
-    ensures noted_after { Notes strs.now name.now marks.new }
+    requires noted_before { Notes strings.now.bytes.now name.now marks.old }
+    ensures answer { result ≡ text_named strings.now.bytes.now o name.now }
+    ensures noted_after { Notes strings.now.bytes.now name.now marks.new }
 {
-    if last < o {
-        return false;
+    match strings.fault(o) {
+        Err(_) => false,
+        Ok(()) if string_table::is_long(name) => strings.same_noted(o, name, marks),
+        Ok(()) => strings.same_at(o, name),
     }
-    if string_table::is_long(name) {
-        return string_table::same_noted(strs, last, o, name, marks);
-    }
-    string_table::same_at(strs, last, o, name)
 }
 
 // The first section whose name, at the offset that stands first in its header, is the name.
-fn search(order: Order, t: &[u8], size: usize, strs: &[u8], last: usize, name: &[u8]) -> Found
+#[tactic(auto, using(parse::proofs::Laws::first_here, parse::proofs::Laws::first_later, parse::proofs::Laws::first_none, string_table::proofs::Notes::none_noted), unfolding(crate::specs::Lookup::first_named, crate::specs::Lookup::named))]
+fn search(order: Order, t: &[u8], size: usize, strings: &Strings, name: &[u8]) -> Option<usize>
     requires wide { 4 ≤ size }
-    requires last_known { last_zero strs.now ≡ Found.At last }
     requires utf8 { well_formed name.now ≡ true }
     requires clean { is_clean name.now ≡ true }
-    ensures { result ≡ first_named order t.now size strs.now name.now }
+    ensures { result ≡ first_named order t.now size strings.now.bytes.now name.now }
 {
+    // fixed, since there is no heap
     let mut marks = [0u8; 1024];
-    let n = t.len() / size;
-    let mut i = 0;
-    while i < n {
-        let o = wide(endian::u32_in(order, t, i * size));
-        if is_named(strs, last, o, name, &mut marks) {
-            return Found::At(i);
+    for i in 0..t.len() / size {
+        let o = u32::read(order, t, i * size) as usize;
+        if is_named(strings, o, name, &mut marks) {
+            return Some(i);
         }
-        i += 1;
     }
-    Found::Nothing
+    None
 }
 
 // Only strings that are UTF-8 are compared, and no string holds a zero byte, so a name that is not UTF-8 or holds one is nobody's.
 // Both are found out here, once for all sections.
-fn first_named(order: Order, t: &[u8], size: usize, strs: &[u8], name: &[u8]) -> Found
+#[tactic(auto, using(crate::proofs::Names::none_unclean, crate::proofs::Names::none_other))]
+fn first_named(order: Order, t: &[u8], size: usize, strs: &[u8], name: &[u8]) -> Option<usize>
     requires { 4 ≤ size }
     ensures { result ≡ first_named order t.now size strs.now name.now }
 {
-    let last = string_table::last_zero(strs);
-    match last {
-        Found::Nothing => Found::Nothing,
-        Found::At(e) => {
-            if !string_table::is_clean(name) {
-                return Found::Nothing;
-            }
-            if string_table::is_utf8(name) {
-                return search(order, t, size, strs, e, name);
-            }
-            Found::Nothing
-        }
+    if !string_table::is_clean(name) || !string_table::is_utf8(name) {
+        return None;
     }
+    search(order, t, size, &Strings::new(strs), name)
 }
 
-fn by_name_with(elf: Elf, d: &[u8], strs: &[u8], name: &[u8]) -> Found
-    requires { Whole d.now elf }
-    ensures { result ≡ by_name_with d.now elf strs.now name.now elf.sections }
+#[tactic(auto, using(crate::proofs::Names::names_whole, section::proofs::Filled::wide), unfolding(crate::specs::Lookup::by_name_in))]
+fn by_name_in(file: &ElfBytes, name: &[u8]) -> Result<Option<usize>, Fault>
+    ensures { result ≡ by_name_in file.now.bytes.now file.now.elf name.now }
 {
-    let sections = elf.sections;
-    let class = elf.class;
-    let order = elf.order;
-    match sections {
-        Table::Absent => Found::Nothing,
-        Table::At(r) => {
-            let from = r.from;
-            let to = r.to;
-            first_named(order, &d[from..to], section::size_of(class), strs, name)
+    match (names_in(file)?, file.elf.sections) {
+        (Some(names), Some(sections)) => {
+            let size = SectionHeader::size_of(file.elf.class);
+            let strs = names.part(file.bytes);
+            Ok(first_named(file.elf.order, sections.part(file.bytes), size, strs, name))
         }
-    }
-}
-
-fn by_name_in(elf: Elf, d: &[u8], name: &[u8]) -> GotFound
-    requires { Whole d.now elf }
-    ensures { result ≡ by_name_in d.now elf name.now }
-{
-    let g = names_in(elf, d);
-    match g {
-        GotTable::Refused(f) => GotFound::Refused(f),
-        GotTable::Is(names) => match names {
-            Table::Absent => GotFound::Is(Found::Nothing),
-            Table::At(r) => {
-                let from = r.from;
-                let to = r.to;
-                GotFound::Is(by_name_with(elf, d, &d[from..to], name))
-            }
-        },
+        _ => Ok(None),
     }
 }
 
 // The number of the first section with that name.
-pub fn by_name(d: &[u8], name: &[u8]) -> GotFound
+#[tactic(auto, unfolding(crate::specs::Lookup::by_name_of))]
+pub fn by_name(d: &[u8], name: &[u8]) -> Result<Option<usize>, Fault>
     ensures { result ≡ by_name_of d.now name.now }
 {
-    let o = elf_bytes::open(d);
-    match o {
-        Opened::Refused(f) => GotFound::Refused(f),
-        Opened::Is(elf) => by_name_in(elf, d, name),
-    }
+    by_name_in(&ElfBytes::open(d)?, name)
 }
 
 // ---- the first of a type
 
-pub fn first_section(elf: Elf, d: &[u8], kind: u32) -> Found
-    requires { Whole d.now elf }
-    ensures { result ≡ first_section d.now elf kind }
+// The first entry of a table of an opened file, or of none, with the kind at the place `at`.
+fn first_in<E: ParseAt>(
+    file: &ElfBytes,
+    table: Option<Range>,
+    at: usize,
+    kind: u32,
+) -> Option<usize>
+    requires whole { Tabled file.now.bytes.now table }
+    requires wide { at + 4 ≤ E.size file.now.elf.class }
+    ensures { result ≡ first_in E.size file.now.bytes.now file.now.elf at kind table }
 {
-    let sections = elf.sections;
-    let class = elf.class;
-    let order = elf.order;
-    match sections {
-        Table::Absent => Found::Nothing,
-        Table::At(r) => {
-            let from = r.from;
-            let to = r.to;
-            parse::first_kind(order, &d[from..to], section::size_of(class), 4, kind)
-        }
-    }
+    let t = table?.part(file.bytes);
+    parse::first_kind(file.elf.order, t, E::size_of(file.elf.class), at, kind)
 }
 
-pub fn first_segment(elf: Elf, d: &[u8], kind: u32) -> Found
-    requires { Whole d.now elf }
-    ensures { result ≡ first_segment d.now elf kind }
+// A line for each of the two tables, which names the definition of one question.
+#[tactic(auto, using(section::proofs::Filled::wide), unfolding(crate::specs::Lookup::first_section))]
+pub fn first_section(file: &ElfBytes, kind: u32) -> Option<usize>
+    ensures { result ≡ first_section file.now.bytes.now file.now.elf kind }
 {
-    let segments = elf.segments;
-    let class = elf.class;
-    let order = elf.order;
-    match segments {
-        Table::Absent => Found::Nothing,
-        Table::At(r) => {
-            let from = r.from;
-            let to = r.to;
-            parse::first_kind(order, &d[from..to], segment::size_of(class), 0, kind)
-        }
-    }
+    first_in::<SectionHeader>(file, file.elf.sections, 4, kind)
+}
+
+#[tactic(auto, using(segment::proofs::Filled::wide), unfolding(crate::specs::Lookup::first_segment))]
+pub fn first_segment(file: &ElfBytes, kind: u32) -> Option<usize>
+    ensures { result ≡ first_segment file.now.bytes.now file.now.elf kind }
+{
+    first_in::<ProgramHeader>(file, file.elf.segments, 0, kind)
 }
 
 // ---- symbol tables
 
 // Section i as symbols.
-pub fn symbols_at(elf: Elf, d: &[u8], i: usize) -> GotSymbols
-    requires { Whole d.now elf }
-    ensures { result ≡ symbols_at d.now elf i }
+#[tactic(auto, unfolding(crate::specs::Lookup::symbols_at))]
+pub fn symbols_at(file: &ElfBytes, i: usize) -> Result<SymbolTable, Fault>
+    ensures { result ≡ symbols_at file.now.bytes.now file.now.elf i }
 {
-    let g = contents::section_in(elf, d, i);
-    match g {
-        GotSectionHeader::Refused(f) => GotSymbols::Refused(f),
-        GotSectionHeader::Is(h) => contents::symbols_in(
-            elf,
-            d,
-            h.offset as usize,
-            h.size as usize,
-            wide(h.link),
-            h.entsize as usize,
-        ),
+    let x = contents::extent_in(file, i)?;
+    contents::symbols_in(file, Asked::from(x))
+}
+
+#[tactic(auto, unfolding(crate::specs::Lookup::symbol_table_in))]
+fn symbol_table_in(file: &ElfBytes, kind: u32) -> Result<Option<SymbolTable>, Fault>
+    ensures { result ≡ symbol_table_in file.now.bytes.now file.now.elf kind }
+{
+    match first_section(file, kind) {
+        None => Ok(None),
+        Some(i) => Ok(Some(symbols_at(file, i)?)),
     }
 }
 
-fn symbol_table_in(elf: Elf, d: &[u8], kind: u32) -> GotSymbols
-    requires { Whole d.now elf }
-    ensures { result ≡ symbol_table_in d.now elf kind }
-{
-    let f = first_section(elf, d, kind);
-    match f {
-        Found::Nothing => GotSymbols::Is(Symbols::Absent),
-        Found::At(i) => symbols_at(elf, d, i),
-    }
-}
-
-fn symbol_table_of(d: &[u8], kind: u32) -> GotSymbols
+// The symbols of the first section of a type.
+#[tactic(auto, unfolding(crate::specs::Lookup::symbol_table_of))]
+fn symbol_table_of(d: &[u8], kind: u32) -> Result<Option<SymbolTable>, Fault>
     ensures { result ≡ symbol_table_of d.now kind }
 {
-    let o = elf_bytes::open(d);
-    match o {
-        Opened::Refused(f) => GotSymbols::Refused(f),
-        Opened::Is(elf) => symbol_table_in(elf, d, kind),
-    }
+    symbol_table_in(&ElfBytes::open(d)?, kind)
 }
 
-pub fn symbol_table(d: &[u8]) -> GotSymbols
+// Two questions of document 01, each under its name and with its own number in its promise.
+pub fn symbol_table(d: &[u8]) -> Result<Option<SymbolTable>, Fault>
     ensures { result ≡ symbol_table_of d.now 2 }
 {
     symbol_table_of(d, 2)
 }
 
-pub fn dynamic_symbol_table(d: &[u8]) -> GotSymbols
+pub fn dynamic_symbol_table(d: &[u8]) -> Result<Option<SymbolTable>, Fault>
     ensures { result ≡ symbol_table_of d.now 11 }
 {
     symbol_table_of(d, 11)
@@ -316,77 +203,58 @@ pub fn dynamic_symbol_table(d: &[u8]) -> GotSymbols
 // ---- dynamic entries
 
 // Section i as dynamic entries.
-pub fn dynamic_at(elf: Elf, d: &[u8], i: usize) -> GotTable
-    requires { Whole d.now elf }
-    ensures { result ≡ dynamic_at d.now elf i }
+#[tactic(auto, unfolding(crate::specs::Lookup::dynamic_at))]
+pub fn dynamic_at(file: &ElfBytes, i: usize) -> Result<Range, Fault>
+    ensures { result ≡ dynamic_at file.now.bytes.now file.now.elf i }
 {
-    let class = elf.class;
-    let g = contents::section_in(elf, d, i);
-    match g {
-        GotSectionHeader::Refused(f) => GotTable::Refused(f),
-        GotSectionHeader::Is(h) => table_of(contents::dynamic_in(
-            class,
-            d,
-            h.kind,
-            h.offset as usize,
-            h.size as usize,
-            h.entsize as usize,
-        )),
-    }
+    let h = contents::section_in(file, i)?;
+    contents::dynamic_in(
+        file.elf.class,
+        file.bytes,
+        h.kind,
+        h.offset as usize,
+        h.size as usize,
+        h.entsize as usize,
+    )
 }
 
 // The bytes of segment i that stand in the file.
-fn segment_bytes(elf: Elf, d: &[u8], i: usize) -> GotTable
-    requires { Whole d.now elf }
-    ensures { result ≡ segment_bytes d.now elf i }
+#[tactic(auto, unfolding(crate::specs::Lookup::segment_bytes))]
+fn segment_bytes(file: &ElfBytes, i: usize) -> Result<Range, Fault>
+    ensures { result ≡ segment_bytes file.now.bytes.now file.now.elf i }
 {
-    let g = contents::segment_in(elf, d, i);
-    match g {
-        GotProgramHeader::Refused(f) => GotTable::Refused(f),
-        GotProgramHeader::Is(h) => table_of(parse::range_at(
-            d.len(),
-            h.offset as usize,
-            h.filesz as usize,
-        )),
-    }
+    let h = contents::segment_in(file, i)?;
+    parse::range_at(file.bytes.len(), h.offset as usize, h.filesz as usize)
 }
 
 // The first segment of type 2.
-pub fn dynamic_segment(elf: Elf, d: &[u8]) -> GotTable
-    requires { Whole d.now elf }
-    ensures { result ≡ dynamic_segment d.now elf }
+#[tactic(auto, unfolding(crate::specs::Lookup::dynamic_segment))]
+pub fn dynamic_segment(file: &ElfBytes) -> Result<Option<Range>, Fault>
+    ensures { result ≡ dynamic_segment file.now.bytes.now file.now.elf }
 {
-    let f = first_segment(elf, d, 2);
-    match f {
-        Found::Nothing => GotTable::Is(Table::Absent),
-        Found::At(i) => segment_bytes(elf, d, i),
+    match first_segment(file, 2) {
+        None => Ok(None),
+        Some(i) => Ok(Some(segment_bytes(file, i)?)),
     }
 }
 
 // If there are sections, the first of type 6, and none if there is none; only without sections, the segment.
-fn dynamic_in(elf: Elf, d: &[u8]) -> GotTable
-    requires { Whole d.now elf }
-    ensures { result ≡ dynamic_in d.now elf }
+#[tactic(auto, unfolding(crate::specs::Lookup::dynamic_in))]
+fn dynamic_in(file: &ElfBytes) -> Result<Option<Range>, Fault>
+    ensures { result ≡ dynamic_in file.now.bytes.now file.now.elf }
 {
-    let sections = elf.sections;
-    match sections {
-        Table::Absent => dynamic_segment(elf, d),
-        Table::At(_) => {
-            let f = first_section(elf, d, 6);
-            match f {
-                Found::Nothing => GotTable::Is(Table::Absent),
-                Found::At(i) => dynamic_at(elf, d, i),
-            }
-        }
+    if file.elf.sections.is_none() {
+        return dynamic_segment(file);
+    }
+    match first_section(file, 6) {
+        None => Ok(None),
+        Some(i) => Ok(Some(dynamic_at(file, i)?)),
     }
 }
 
-pub fn dynamic(d: &[u8]) -> GotTable
+#[tactic(auto, unfolding(crate::specs::Lookup::dynamic_of))]
+pub fn dynamic(d: &[u8]) -> Result<Option<Range>, Fault>
     ensures { result ≡ dynamic_of d.now }
 {
-    let o = elf_bytes::open(d);
-    match o {
-        Opened::Refused(f) => GotTable::Refused(f),
-        Opened::Is(elf) => dynamic_in(elf, d),
-    }
+    dynamic_in(&ElfBytes::open(d)?)
 }

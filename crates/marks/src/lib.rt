@@ -5,6 +5,7 @@ ghost use Rattle.std.specs.Prelude.{◌≡◌, ◌*◌, ◌<◌, length};
 ghost use Rattle.marks.specs.Marks.{marked, marking};
 
 // Whether i is marked.
+#[tactic(auto, unfolding(crate::specs::Marks::marked))]
 pub fn is_marked(m: &[u8], i: usize) -> bool
     requires { i < 8 * length m.now }
     ensures { result ≡ marked m.now i }
@@ -13,9 +14,10 @@ pub fn is_marked(m: &[u8], i: usize) -> bool
 }
 
 // Marks i.
+#[tactic(auto, unfolding(crate::specs::Marks::marking))]
 pub fn mark(m: &mut [u8], i: usize)
     requires { i < 8 * length m.old }
     ensures { m.new ≡ marking m.old i }
 {
-    m[i / 8] = m[i / 8] | (1 << (i % 8));
+    m[i / 8] |= 1 << (i % 8);
 }

@@ -1,2 +1,3 @@
-pub mod Fill
+-- The crate's laws, a file each.
+-- Assumes nothing.
 pub mod Put

@@ -1,1 +1,3 @@
+-- The crate's definitions, a file each.
+-- Assumes nothing.
 pub mod Run

@@ -3,18 +3,16 @@
 -- is_kind e s size at k i    the four bytes at the place `at` of entry i say k
 -- first_kind e s size at k   the first whole entry of the table s that says so
 -- Assumes nothing.
-use Rattle.std.specs.Prelude.{ℕ, zero, suc, ◌+◌, ◌*◌, ◌/◌, Bool, cond, List, length, eqb}
+use Rattle.std.specs.Prelude.{ℕ, zero, suc, ◌+◌, ◌*◌, ◌/◌, Bool, cond, List, length, eqb, Option, Some, None}
 use Rattle.endian.specs.Number.{number_at}
 use Rattle.endian.specs.declared.Order.{Order}
-use Rattle.parse.specs.declared.Found.{Found}
-use Rattle.parse.specs.declared.Found.TheVariants.{At, Nothing}
 
-unfoldable pub first_from : (ℕ → Bool) → ℕ → ℕ → Found
-first_from p zero i = Nothing
-first_from p (suc n) i = cond (p i) (At i) (first_from p n (i + 1))
+unfoldable pub first_from : (ℕ → Bool) → ℕ → ℕ → Option ℕ
+first_from p zero i = None
+first_from p (suc n) i = cond (p i) (Some i) (first_from p n (i + 1))
 
 abbrev pub is_kind : Order → List ℕ → ℕ → ℕ → ℕ → ℕ → Bool
 is_kind e s size at k i = eqb (number_at e 4 s (i * size + at)) k
 
-unfoldable pub first_kind : Order → List ℕ → ℕ → ℕ → ℕ → Found
+unfoldable pub first_kind : Order → List ℕ → ℕ → ℕ → ℕ → Option ℕ
 first_kind e s size at k = first_from (is_kind e s size at k) (length s / size) 0

@@ -1,106 +1,136 @@
 // Tables and ranges: entry i of a table, how many entries it has, the first of a kind, a range of the data.
 // A table is a part of the data with entries of one size; what stands behind the last whole entry is ignored.
+// Each kind of entry says its size and its fields by the trait `ParseAt`; `entry` and `entry_in` are one function for all kinds.
 #![tactic(auto)]
 
-ghost use Rattle.std.specs.Prelude.{◌≡◌, ◌+◌, ◌*◌, ◌^◌, ◌≤◌, leb, length};
-ghost use Rattle.parse.specs.Entry.{entry_fault, count_of, range_at};
+ghost use Rattle.std.specs.Prelude.{◌≡◌, ℕ, ◌+◌, ◌*◌, ◌^◌, ◌<◌, ◌≤◌, leb, List, length};
+ghost use Rattle.endian.specs.declared.Class.{Class};
+ghost use Rattle.endian.specs.declared.Order.{Order};
+ghost use Rattle.endian.specs.Range.{answer};
+ghost use Rattle.parse.specs.Entry.{entry_fault, count_of, range_at, part_of};
 ghost use Rattle.parse.specs.First.{first_kind};
 
-use endian::{Fault, Order};
+use endian::{Class, Fault, Number, Order};
 
-// What a search finds.
-#[derive(Clone, Copy)]
-pub enum Found {
-    At(usize),
-    Nothing,
+// An entry of fixed size: how many bytes it has in a class, and what the bytes at an offset say.
+pub trait ParseAt: Copy {
+    ghost size: { Class → ℕ };
+
+    ghost at: { Class → Order → List ℕ → ℕ → Self };
+
+    fn size_of(class: Class) -> usize
+        ensures { result ≡ size class };
+
+    // The entry at o, which the caller knows to be whole.
+    fn read(class: Class, order: Order, t: &[u8], o: usize) -> Self
+        requires { o + size class ≤ length t.now }
+        ensures { result ≡ at class order t.now o };
+
+    // No entry is empty.
+    ghost some_bytes: { (c : Class) → 0 < size c };
 }
 
-// A part of the data, from the first byte up to, not including, the last.
-#[derive(Clone, Copy)]
+// A part of the data, from the first byte up to, not including, the last: two offsets, as they cross to C.
+#[derive(Clone, Copy, Debug, PartialEq, Eq)]
 pub struct Range {
     pub from: usize,
     pub to: usize,
 }
 
-#[derive(Clone, Copy)]
-pub enum GotRange {
-    Is(Range),
-    Refused(Fault),
+impl Range {
+    // The bytes of a range that lies in the data.
+    pub fn part(self, d: &[u8]) -> &[u8]
+        requires { (self.from ≤ self.to) × (self.to ≤ length d.now) }
+        ensures { result.now ≡ part_of d.now self }
+    {
+        &d[self.from..self.to]
+    }
 }
 
-// No fault where entry i of a table of len bytes is whole, else the fault of the first test that fails.
-pub fn entry_fault(size: usize, len: usize, i: usize) -> Fault
+// Ok where entry i of a table of len bytes is whole, else the fault of the first test that fails.
+#[tactic(auto, unfolding(crate::specs::Entry::entry_fault))]
+pub fn entry_fault(size: usize, len: usize, i: usize) -> Result<(), Fault>
     ensures { result ≡ entry_fault size len i }
 {
     if len == 0 {
-        return Fault { number: 5 };
+        return Err(Fault::BadOffset);
     }
-    if size == 0 {
-        return Fault { number: 0 };
-    }
-    if i > 18446744073709551615 / size {
-        return Fault { number: 12 };
-    }
-    let start = i * size;
+    let start = i.checked_mul(size).ok_or(Fault::Overflow)?;
     if start > len {
-        return Fault { number: 5 };
+        return Err(Fault::BadOffset);
     }
     if size <= len - start {
-        return Fault { number: 0 };
+        return Ok(());
     }
-    Fault { number: 11 }
+    Err(Fault::OutsideData)
 }
 
-// Does the product overflow? A count that small needs no division: every entry of the ABI has at most 64 bytes.
+// The entry at o, which is whole. Class and order are told apart here, once for all fields and all kinds of entries.
+pub fn entry_in<E: ParseAt>(class: Class, order: Order, t: &[u8], o: usize) -> E
+    requires { o + E.size class ≤ length t.now }
+    ensures { result ≡ E.at class order t.now o }
+{
+    match (class, order) {
+        (Class::Elf32, Order::Little) => E::read(Class::Elf32, Order::Little, t, o),
+        (Class::Elf32, Order::Big) => E::read(Class::Elf32, Order::Big, t, o),
+        (Class::Elf64, Order::Little) => E::read(Class::Elf64, Order::Little, t, o),
+        (Class::Elf64, Order::Big) => E::read(Class::Elf64, Order::Big, t, o),
+    }
+}
+
+// The class is told apart first, so that the quotient in the test is of two constants.
+pub fn fault_in<E: ParseAt>(class: Class, len: usize, i: usize) -> Result<(), Fault>
+    ensures { result ≡ entry_fault (E.size class) len i }
+{
+    match class {
+        Class::Elf32 => entry_fault(E::size_of(Class::Elf32), len, i),
+        Class::Elf64 => entry_fault(E::size_of(Class::Elf64), len, i),
+    }
+}
+
+// Entry i of a table.
+#[tactic(auto, using(crate::proofs::Laws::whole))]
+pub fn entry<E: ParseAt>(class: Class, order: Order, t: &[u8], i: usize) -> Result<E, Fault>
+    ensures { result ≡ answer (entry_fault (E.size class) (length t.now) i) (E.at class order t.now (i * E.size class)) }
+{
+    fault_in::<E>(class, t.len(), i)?;
+    Ok(entry_in(class, order, t, i * E::size_of(class)))
+}
+
+// Does the product overflow?
 pub fn overflows(n: usize, size: usize) -> bool
     ensures { result ≡ leb (2 ^ 64) (n * size) }
 {
-    if size == 0 {
-        return false;
-    }
-    if n < 288230376151711744 {
-        if size <= 64 {
-            return false;
-        }
-        return n > 18446744073709551615 / size;
-    }
-    n > 18446744073709551615 / size
+    n.checked_mul(size).is_none()
 }
 
 // How many whole entries a table of len bytes has: as many as a walk visits.
+#[tactic(auto, unfolding(crate::specs::Entry::count_of))]
 pub fn count(size: usize, len: usize) -> usize
     ensures { result ≡ count_of size len }
 {
-    if size == 0 {
-        return 0;
-    }
-    len / size
+    len.checked_div(size).unwrap_or(0)
 }
 
 // The n bytes at o of data of len bytes.
-pub fn range_at(len: usize, o: usize, n: usize) -> GotRange
+#[tactic(auto, unfolding(endian::specs::Range::range_fault, crate::specs::Entry::range_at))]
+pub fn range_at(len: usize, o: usize, n: usize) -> Result<Range, Fault>
     ensures { result ≡ range_at len o n }
 {
-    let f = endian::range_fault(len, o, n);
-    if f.number == 0 {
-        return GotRange::Is(Range { from: o, to: o + n });
-    }
-    GotRange::Refused(f)
+    endian::range_fault(len, o, n)?;
+    Ok(Range { from: o, to: o + n })
 }
 
 // The first whole entry, of size bytes, with the kind in the four bytes at the place `at`.
-pub fn first_kind(order: Order, t: &[u8], size: usize, at: usize, kind: u32) -> Found
+#[tactic(auto, using(crate::proofs::Laws::first_here, crate::proofs::Laws::first_later, crate::proofs::Laws::first_none), unfolding(crate::specs::First::first_kind))]
+pub fn first_kind(order: Order, t: &[u8], size: usize, at: usize, kind: u32) -> Option<usize>
     requires { at + 4 ≤ size }
     ensures { result ≡ first_kind order t.now size at kind }
 {
-    let n = t.len() / size;
-    let mut i = 0;
-    while i < n {
-        let k = endian::u32_in(order, t, i * size + at);
-        if k == kind {
-            return Found::At(i);
+    for i in 0..t.len() / size {
+        if u32::read(order, t, i * size + at) == kind {
+            return Some(i);
         }
-        i += 1;
     }
-    Found::Nothing
+    None
 }

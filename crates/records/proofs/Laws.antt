@@ -38,17 +38,21 @@ three_puts s o a b c =
 sets_put : (v s : List ℕ) (o : ℕ) → o + length v ≤ length s → sets s o v ≡ put o v s
 sets_put v s o h = sets-eq v s o h ∙ append_assoc (take o s) v (drop (o + length v) s)
 
--- the two halves of a record
-pub two_puts : (s : List ℕ) (o : ℕ) (r : Record) → o + 48 ≤ length s
-    → sets (sets s o (three_bytes r.page r.len r.prot)) (o + 24) (three_bytes r.at r.count r.from) ≡ put o (record_bytes r) s
+-- the six numbers of a record
+pub six_puts : (s : List ℕ) (o : ℕ) (r : Record) → o + 48 ≤ length s
+    → sets (sets (sets (sets (sets (sets s o (bytes_of Little 8 r.page)) (o + 8) (bytes_of Little 8 r.len)) (o + 16) (bytes_of Little 8 r.prot)) (o + 24) (bytes_of Little 8 r.at)) (o + 32) (bytes_of Little 8 r.count)) (o + 40) (bytes_of Little 8 r.from)
+    ≡ put o (record_bytes r) s
 unfolding record_bytes
-two_puts s o r h =
+six_puts s o r h =
     let a = three_bytes r.page r.len r.prot in
     let b = three_bytes r.at r.count r.from in
     let n : length (a ++ b) ≡ 48 = length-append a b ∙ omega (arith, length_three r.page r.len r.prot, length_three r.at r.count r.from) in
-    ap (λ (k : ℕ). sets (sets s o a) (o + k) b) (sym (length_three r.page r.len r.prot))
+    let e : o + 24 + 8 ≡ o + 32 = omega arith in
+    let e' : o + 24 + 16 ≡ o + 40 = omega arith in
+    rw (three_puts s o r.page r.len r.prot, ← e, ← e', three_puts (sets s o a) (o + 24) r.at r.count r.from)
+    (ap (λ (k : ℕ). sets (sets s o a) (o + k) b) (sym (length_three r.page r.len r.prot))
     ∙ sym (sets_append s o a b)
-    ∙ sets_put (a ++ b) s o (omega arith)
+    ∙ sets_put (a ++ b) s o (omega arith))
 
 -- a table with one record more
 pub table_snoc : (rs : List Record) (r : Record) → table_bytes (rs ++ (r ∷ [])) ≡ table_bytes rs ++ record_bytes r

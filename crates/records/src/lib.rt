@@ -3,13 +3,12 @@
 #![tactic(auto)]
 
 ghost use Rattle.std.specs.Prelude.{◌≡◌, ◌+◌, ◌*◌, ◌≤◌, length};
-ghost use Rattle.std.proofs.lemmas.List.Edits.{sets};
 ghost use Rattle.memory.specs.Run.{put};
-ghost use Rattle.records.specs.Record.{record_at, record_bytes, three_bytes};
+ghost use Rattle.records.specs.Record.{record_at, record_bytes};
 
-use endian::Order;
+use endian::{Number, Order, Store};
 
-#[derive(Clone, Copy)]
+#[derive(Clone, Copy, Debug, PartialEq, Eq)]
 pub struct Record {
     // start and length of the pages
     pub page: u64,
@@ -22,37 +21,35 @@ pub struct Record {
     pub from: u64,
 }
 
-// The k-th record of a table.
-pub fn record_at(t: &[u8], k: usize) -> Record
-    requires { 48 * k + 48 ≤ length t.now }
-    ensures { result ≡ record_at t.now k }
-{
-    let o = 48 * k;
-    Record {
-        page: endian::u64_in(Order::Little, t, o),
-        len: endian::u64_in(Order::Little, t, o + 8),
-        prot: endian::u64_in(Order::Little, t, o + 16),
-        at: endian::u64_in(Order::Little, t, o + 24),
-        count: endian::u64_in(Order::Little, t, o + 32),
-        from: endian::u64_in(Order::Little, t, o + 40),
+impl Record {
+    // The k-th record of a table.
+    #[tactic(auto, unfolding(crate::specs::Record::record_at))]
+    pub fn read(t: &[u8], k: usize) -> Record
+        requires { 48 * k + 48 ≤ length t.now }
+        ensures { result ≡ record_at t.now k }
+    {
+        let o = 48 * k;
+        Record {
+            page: u64::read(Order::Little, t, o),
+            len: u64::read(Order::Little, t, o + 8),
+            prot: u64::read(Order::Little, t, o + 16),
+            at: u64::read(Order::Little, t, o + 24),
+            count: u64::read(Order::Little, t, o + 32),
+            from: u64::read(Order::Little, t, o + 40),
+        }
     }
-}
 
-// Three numbers from o on.
-fn put_three(t: &mut [u8], o: usize, a: u64, b: u64, c: u64)
-    requires { o + 24 ≤ length t.old }
-    ensures { t.new ≡ sets t.old o (three_bytes a b c) }
-{
-    endian::put64(Order::Little, t, o, a);
-    endian::put64(Order::Little, t, o + 8, b);
-    endian::put64(Order::Little, t, o + 16, c);
-}
-
-// A record in the 48 bytes from o on.
-pub fn put_record(t: &mut [u8], o: usize, r: Record)
-    requires { o + 48 ≤ length t.old }
-    ensures { t.new ≡ put o (record_bytes r) t.old }
-{
-    put_three(t, o, r.page, r.len, r.prot);
-    put_three(t, o + 24, r.at, r.count, r.from);
+    // In the 48 bytes from o on.
+    #[tactic(auto, using(crate::proofs::Laws::six_puts))]
+    pub fn put(self, t: &mut [u8], o: usize)
+        requires { o + 48 ≤ length t.old }
+        ensures { t.new ≡ put o (record_bytes self) t.old }
+    {
+        self.page.put(Order::Little, t, o);
+        self.len.put(Order::Little, t, o + 8);
+        self.prot.put(Order::Little, t, o + 16);
+        self.at.put(Order::Little, t, o + 24);
+        self.count.put(Order::Little, t, o + 32);
+        self.from.put(Order::Little, t, o + 40);
+    }
 }

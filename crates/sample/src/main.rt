@@ -6,157 +6,146 @@
 ghost use Rattle.std.specs.Prelude.{◌≤◌, IfOk};
 
 use endian::{Class, Fault, Order};
-use file::{FileHeader, GotHeader};
-use segment::{GotProgramHeader, ProgramHeader};
-use std::io;
+use file::FileHeader;
+use segment::ProgramHeader;
 use std::io::Read;
+use std::{fmt, io};
 
-fn line(rt: &impl Print, label: &str, n: u64) -> io::Result<()> {
-    println!(rt; "{label}{n:x}")
-}
+// What is printed of an answer: a field on each line.
+#[derive(Clone, Copy)]
+struct Listing<T>(T);
 
-fn line8(rt: &impl Print, label: &str, n: u8) -> io::Result<()> {
-    line(rt, label, n as u64)
-}
-
-fn line16(rt: &impl Print, label: &str, n: u16) -> io::Result<()> {
-    line(rt, label, n as u64)
-}
-
-fn line32(rt: &impl Print, label: &str, n: u32) -> io::Result<()> {
-    line(rt, label, n as u64)
-}
-
-fn print_refused(rt: &impl Print, f: Fault) -> io::Result<()> {
-    line8(rt, "refused ", f.number)
-}
-
-fn print_class(rt: &impl Print, class: Class) -> io::Result<()> {
-    match class {
-        Class::Elf32 => print!(rt; "32-bit, "),
-        Class::Elf64 => print!(rt; "64-bit, "),
+impl fmt::Display for Listing<Class> {
+    fn fmt<W: fmt::Write>(&self, f: &mut fmt::Formatter<W>) -> fmt::Result {
+        f.write_str(match self.0 {
+            Class::Elf32 => "32-bit",
+            Class::Elf64 => "64-bit",
+        })
     }
 }
 
-fn print_order(rt: &impl Print, order: Order) -> io::Result<()> {
-    match order {
-        Order::Little => println!(rt; "lowest byte first"),
-        Order::Big => println!(rt; "highest byte first"),
+impl fmt::Display for Listing<Order> {
+    fn fmt<W: fmt::Write>(&self, f: &mut fmt::Formatter<W>) -> fmt::Result {
+        f.write_str(match self.0 {
+            Order::Little => "lowest byte first",
+            Order::Big => "highest byte first",
+        })
     }
 }
 
-fn print_header(rt: &impl Print, h: FileHeader) -> io::Result<()> {
-    let class = h.class;
-    let order = h.order;
-    print_class(rt, class)?;
-    print_order(rt, order)?;
-    line8(rt, "osabi ", h.osabi)?;
-    line8(rt, "abiversion ", h.abiversion)?;
-    line16(rt, "type ", h.kind)?;
-    line16(rt, "machine ", h.machine)?;
-    line32(rt, "version ", h.version)?;
-    print_places(rt, h)?;
-    print_sizes(rt, h)
-}
-
-fn print_places(rt: &impl Print, h: FileHeader) -> io::Result<()> {
-    line(rt, "entry ", h.entry)?;
-    line(rt, "phoff ", h.phoff)?;
-    line(rt, "shoff ", h.shoff)?;
-    line32(rt, "flags ", h.flags)
-}
-
-fn print_sizes(rt: &impl Print, h: FileHeader) -> io::Result<()> {
-    line16(rt, "ehsize ", h.ehsize)?;
-    line16(rt, "phentsize ", h.phentsize)?;
-    line16(rt, "phnum ", h.phnum)?;
-    line16(rt, "shentsize ", h.shentsize)?;
-    line16(rt, "shnum ", h.shnum)?;
-    line16(rt, "shstrndx ", h.shstrndx)
-}
-
-fn print_segment(rt: &impl Print, h: ProgramHeader) -> io::Result<()> {
-    line32(rt, "segment type ", h.kind)?;
-    line32(rt, "flags ", h.flags)?;
-    line(rt, "offset ", h.offset)?;
-    line(rt, "vaddr ", h.vaddr)?;
-    line(rt, "paddr ", h.paddr)?;
-    line(rt, "filesz ", h.filesz)?;
-    line(rt, "memsz ", h.memsz)?;
-    line(rt, "align ", h.align)
-}
-
-// Entry i of a table of program headers.
-fn print_entry(rt: &impl Print, class: Class, order: Order, t: &[u8], i: usize) -> io::Result<()> {
-    let g = segment::entry(class, order, t, i);
-    match g {
-        GotProgramHeader::Is(h) => print_segment(rt, h),
-        GotProgramHeader::Refused(f) => print_refused(rt, f),
+impl fmt::Display for Listing<FileHeader> {
+    fn fmt<W: fmt::Write>(&self, f: &mut fmt::Formatter<W>) -> fmt::Result {
+        let h = self.0;
+        writeln!(f, "{}, {}", Listing(h.class), Listing(h.order))?;
+        writeln!(f, "osabi {:x}\nabiversion {:x}", h.osabi, h.abiversion)?;
+        writeln!(
+            f,
+            "type {:x}\nmachine {:x}\nversion {:x}",
+            h.kind, h.machine, h.version
+        )?;
+        writeln!(
+            f,
+            "entry {:x}\nphoff {:x}\nshoff {:x}",
+            h.entry, h.phoff, h.shoff
+        )?;
+        writeln!(f, "flags {:x}\nehsize {:x}", h.flags, h.ehsize)?;
+        writeln!(f, "phentsize {:x}\nphnum {:x}", h.phentsize, h.phnum)?;
+        writeln!(f, "shentsize {:x}\nshnum {:x}", h.shentsize, h.shnum)?;
+        write!(f, "shstrndx {:x}", h.shstrndx)
     }
 }
 
-fn print_got(rt: &impl Print, g: GotHeader) -> io::Result<()> {
-    match g {
-        GotHeader::Is(h) => print_header(rt, h),
-        GotHeader::Refused(f) => print_refused(rt, f),
+impl fmt::Display for Listing<ProgramHeader> {
+    fn fmt<W: fmt::Write>(&self, f: &mut fmt::Formatter<W>) -> fmt::Result {
+        let h = self.0;
+        writeln!(
+            f,
+            "segment type {:x}\nflags {:x}\noffset {:x}",
+            h.kind, h.flags, h.offset
+        )?;
+        writeln!(f, "vaddr {:x}\npaddr {:x}", h.vaddr, h.paddr)?;
+        write!(
+            f,
+            "filesz {:x}\nmemsz {:x}\nalign {:x}",
+            h.filesz, h.memsz, h.align
+        )
     }
+}
+
+// The value of an answer, or the number of its refusal.
+impl<T: Copy> fmt::Display for Listing<Result<T, Fault>>
+where
+    Listing<T>: fmt::Display,
+{
+    fn fmt<W: fmt::Write>(&self, f: &mut fmt::Formatter<W>) -> fmt::Result {
+        match self.0 {
+            Ok(x) => write!(f, "{}", Listing(x)),
+            Err(fault) => write!(f, "refused {:x}", u32::from(fault)),
+        }
+    }
+}
+
+fn print_written(rt: &impl Print, answer: Result<(), Fault>) -> io::Result<()> {
+    println!(rt; "written {:x}", answer.err().map_or(0, u32::from))
 }
 
 // The header into a slice that is a byte too short for it.
 fn header_short(rt: &impl Print, h: FileHeader) -> io::Result<()> {
     let mut out = [0u8; 63];
-    let f = written::write_file_header(h, &mut out);
-    line8(rt, "written ", f.number)
+    print_written(rt, written::write_file_header(h, &mut out))
 }
 
 // The header written out and read again.
 fn header_again(rt: &impl Print, h: FileHeader) -> io::Result<()> {
     let mut out = [0u8; 64];
-    let f = written::write_file_header(h, &mut out);
-    line8(rt, "written ", f.number)?;
-    print_got(rt, file::header(&out))
+    print_written(rt, written::write_file_header(h, &mut out))?;
+    println!(rt; "{}", Listing(file::header(&out)))
 }
 
 // The program header written out as a 32-bit entry, highest byte first, and read again.
-fn segment_again(rt: &impl Print, g: GotProgramHeader) -> io::Result<()> {
+fn segment_again(rt: &impl Print, h: ProgramHeader) -> io::Result<()> {
     let mut out = [0u8; 32];
-    match g {
-        GotProgramHeader::Is(h) => {
-            let f = written::write_program_header(Class::Elf32, Order::Big, h, &mut out);
-            line8(rt, "written ", f.number)?;
-            print_entry(rt, Class::Elf32, Order::Big, &out, 0)
-        }
-        GotProgramHeader::Refused(f) => print_refused(rt, f),
+    print_written(
+        rt,
+        written::write_program_header(Class::Elf32, Order::Big, h, &mut out),
+    )?;
+    println!(rt;
+        "{}",
+        Listing(parse::entry::<ProgramHeader>(Class::Elf32, Order::Big, &out, 0))
+    )
+}
+
+// The entries of a table of program headers, one that it doesn't have too; then the second once more.
+fn print_table(rt: &impl Print, class: Class, order: Order, t: &[u8]) -> io::Result<()> {
+    for i in [0, 1, 2, 3, usize::MAX] {
+        println!(rt;
+            "{}",
+            Listing(parse::entry::<ProgramHeader>(class, order, t, i))
+        )?;
+    }
+    match parse::entry(class, order, t, 1) {
+        Ok(h) => segment_again(rt, h),
+        Err(f) => println!(rt; "refused {:x}", u32::from(f)),
     }
 }
 
 fn print_file(rt: &impl Print, d: &[u8]) -> io::Result<()> {
-    let g = file::header(d);
-    match g {
-        GotHeader::Refused(f) => print_refused(rt, f),
-        GotHeader::Is(h) => {
-            print_header(rt, h)?;
-            let class = h.class;
-            let order = h.order;
-            if 176 <= d.len() {
-                let t = &d[64..176];
-                print_entry(rt, class, order, t, 0)?;
-                print_entry(rt, class, order, t, 1)?;
-                print_entry(rt, class, order, t, 2)?;
-                print_entry(rt, class, order, t, 3)?;
-                print_entry(rt, class, order, t, 18446744073709551615)?;
-                segment_again(rt, segment::entry(class, order, t, 1))?;
-            }
-            header_short(rt, h)?;
-            header_again(rt, h)
+    let answer = file::header(d);
+    println!(rt; "{}", Listing(answer))?;
+    if let Ok(h) = answer {
+        if let Some(t) = d.get(64..176) {
+            print_table(rt, h.class, h.order, t)?;
         }
+        header_short(rt, h)?;
+        header_again(rt, h)?;
     }
+    Ok(())
 }
 
 // An identification with some bytes of one's own.
 fn damaged(rt: &impl Print, b3: u8, class: u8, order: u8, version: u8) -> io::Result<()> {
     let d = [
-        0x7f, 0x45, 0x4c, b3, class, order, version, 0, 0, 0, 0, 0, 0, 0, 0, 0,
+        0x7f, b'E', b'L', b3, class, order, version, 0, 0, 0, 0, 0, 0, 0, 0, 0,
     ];
     print_file(rt, &d)
 }
@@ -167,6 +156,7 @@ fn read_start(rt: &impl Input, buffer: &mut [u8; 4096]) -> io::Result<usize>
 {
     let mut reader = rt.reader();
     let mut done = 0;
+    // A read takes any number of bytes, and std's read_exact would refuse a shorter input.
     while done < 4096 {
         let n = reader.read(&mut buffer[done..])?;
         if n == 0 {
@@ -182,9 +172,9 @@ fn main(rt: HostRuntime) -> io::Result<()> {
     let n = read_start(&rt, &mut buffer)?;
     print_file(&rt, &buffer[..n])?;
     print_file(&rt, b"")?;
-    damaged(&rt, 0x46, 2, 1, 1)?;
-    damaged(&rt, 0x46, 2, 3, 1)?;
-    damaged(&rt, 0x46, 3, 3, 1)?;
-    damaged(&rt, 0x46, 3, 3, 0)?;
-    damaged(&rt, 0x45, 3, 3, 0)
+    damaged(&rt, b'F', 2, 1, 1)?;
+    damaged(&rt, b'F', 2, 3, 1)?;
+    damaged(&rt, b'F', 3, 3, 1)?;
+    damaged(&rt, b'F', 3, 3, 0)?;
+    damaged(&rt, b'E', 3, 3, 0)
 }

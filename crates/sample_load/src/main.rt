@@ -4,19 +4,16 @@
 
 ghost use Rattle.std.specs.Prelude.{◌<◌, ◌≤◌};
 
-use load_plan::Answer;
-use std::io;
+use load_plan::Refusal;
+use records::Record;
 use std::io::Write;
+use std::{fmt, io};
 
 // Puts 32 bytes at a place of the file.
 fn row(f: &mut [u8; 192], at: usize, r: &[u8; 32])
     requires { at ≤ 160 }
 {
-    let mut i = 0;
-    while i < 32 {
-        f[at + i] = r[i];
-        i += 1;
-    }
+    f[at..at + 32].copy_from_slice(r);
 }
 
 fn sample() -> [u8; 192] {
@@ -54,12 +51,15 @@ fn sample() -> [u8; 192] {
     f
 }
 
-fn tell(rt: &impl Print, a: Answer) -> io::Result<()> {
-    match a {
-        Answer::Planned(n) => print!(rt; "planned {n}"),
-        Answer::Refused(r) => {
-            let number = r.number;
-            print!(rt; "refused {number}")
+// A plan's answer, as it is told.
+#[derive(Debug, Drop)]
+struct Told(Result<usize, Refusal>);
+
+impl fmt::Display for Told {
+    fn fmt<W: fmt::Write>(&self, f: &mut fmt::Formatter<W>) -> fmt::Result {
+        match self.0 {
+            Ok(n) => write!(f, "planned {n}"),
+            Err(refusal) => write!(f, "refused {}", u32::from(refusal)),
         }
     }
 }
@@ -68,55 +68,38 @@ fn tell(rt: &impl Print, a: Answer) -> io::Result<()> {
 fn show(rt: &impl Print, t: &[u8; 100], k: usize) -> io::Result<()>
     requires { k < 2 }
 {
-    let r = records::record_at(t, k);
-    let page = r.page;
-    let len = r.len;
-    let prot = r.prot;
-    let at = r.at;
-    let count = r.count;
-    let from = r.from;
+    let Record {
+        page,
+        len,
+        prot,
+        at,
+        count,
+        from,
+    } = Record::read(t, k);
     print!(rt; "pages {page:x} length {len:x} protection {prot:x}")?;
     println!(rt; ", bytes at {at:x} count {count:x} from {from:x}")
 }
 
-// How many bytes of s, from i on, are not b.
-fn others(s: &[u8], start: usize, b: u8) -> usize {
-    let mut n: usize = 0;
-    let mut i = start;
-    while i < s.len() {
-        if s[i] != b {
-            n += 1;
-        }
-        i += 1;
-    }
-    n
+// How many bytes of s are not b.
+fn others(s: &[u8], b: u8) -> usize {
+    s.iter().filter(|x| **x != b).count()
 }
 
 // What section 8 says of the byte i of the window: file bytes 0 to b8, zero to 10b8, "data...\n", zero.
 fn expected(f: &[u8; 192], i: usize) -> u8 {
-    if i < 184 {
-        return f[i];
+    match i {
+        0..=183 => f[i],
+        4280..=4287 => f[i - 4096],
+        _ => 0,
     }
-    if i < 4280 {
-        return 0;
-    }
-    if i < 4288 {
-        return f[i - 4096];
-    }
-    0
 }
 
 // How many bytes are not as section 8 says.
 fn wrong(f: &[u8; 192], m: &[u8; 8192]) -> usize {
-    let mut n: usize = 0;
-    let mut i = 0;
-    while i < 8192 {
-        if m[i] != expected(f, i) {
-            n += 1;
-        }
-        i += 1;
-    }
-    n
+    m.iter()
+        .enumerate()
+        .filter(|(i, b)| **b != expected(f, *i))
+        .count()
 }
 
 // A file that is loaded: the answer, the records, how many bytes of the table and the window are not as they should be.
@@ -124,12 +107,11 @@ fn loaded(rt: &impl Print, name: &str, f: &[u8; 192], start: u64) -> io::Result<
     let mut table = [238u8; 100];
     let mut m = [170u8; 8192];
     let a = load_image::load(f, start, 8192, &mut table, &mut m);
-    print!(rt; "{name}: ")?;
-    tell(rt, a)?;
-    println!(rt; "")?;
+    let told = Told(a);
+    println!(rt; "{name}: {told}")?;
     show(rt, &table, 0)?;
     show(rt, &table, 1)?;
-    let behind = others(&table, 96, 238);
+    let behind = others(&table[96..], 238);
     println!(rt; "bytes of the table behind the records that changed: {behind}")?;
     let bad = wrong(f, &m);
     println!(rt; "bytes of the window that are not as the document says: {bad} of 8192")?;
@@ -141,11 +123,10 @@ fn loaded(rt: &impl Print, name: &str, f: &[u8; 192], start: u64) -> io::Result<
 fn refused(rt: &impl Print, name: &str, f: &[u8; 192], len: u64, m: &mut [u8]) -> io::Result<()> {
     let mut table = [238u8; 100];
     let a = load_image::load(f, 4194304, len, &mut table, m);
-    print!(rt; "{name}: ")?;
-    tell(rt, a)?;
-    let in_table = others(&table, 0, 238);
-    let in_memory = others(m, 0, 170);
-    println!(rt; ", changed in the table {in_table}, in the memory {in_memory}")
+    let told = Told(a);
+    let in_table = others(&table, 238);
+    let in_memory = others(m, 170);
+    println!(rt; "{name}: {told}, changed in the table {in_table}, in the memory {in_memory}")
 }
 
 // The sample with one byte changed.
@@ -181,9 +162,8 @@ fn big(rt: &impl Print) -> io::Result<()> {
         b"\x7fELF\x01\x02\x01\x00\x00\x00\x00\x00\x00\x00\x00\x00\x00\x02\x00\x14\x00\x00\x00\x01\x10\x00\x00\x54\x00\x00\x00\x34\x00\x00\x00\x00\x00\x00\x00\x00\x00\x34\x00\x20\x00\x01\x00\x28\x00\x00\x00\x00\x00\x00\x00\x01\x00\x00\x00\x00\x10\x00\x00\x00\x10\x00\x00\x00\x00\x00\x00\x58\x00\x00\x00\x58\x00\x00\x00\x05\x00\x00\x10\x00\x4e\x80\x00\x20";
     let mut table = [238u8; 100];
     let a = load_plan::plan(f, 268435456, 4096, &mut table);
-    print!(rt; "32-bit, highest byte first: ")?;
-    tell(rt, a)?;
-    println!(rt; "")?;
+    let told = Told(a);
+    println!(rt; "32-bit, highest byte first: {told}")?;
     show(rt, &table, 0)
 }
 

@@ -1,16 +1,16 @@
-// Section headers: the entry at an offset, and entry i of a table, in both classes and both orders.
-// `section_in` is for a caller that has tested the range of the whole entry.
+// Section headers in both classes and both orders: what the trait of entries asks of them.
 #![tactic(auto)]
 
-ghost use Rattle.std.specs.Prelude.{◌≡◌, ◌+◌, ◌*◌, ◌≤◌, length};
-ghost use Rattle.endian.specs.Range.{answer};
+ghost use Rattle.std.specs.Prelude.{◌≡◌, ◌+◌, ◌≤◌, length};
+ghost use Rattle.std.proofs.Common.{lit<};
+ghost use Rattle.endian.specs.declared.Class.TheVariants.{Elf32, Elf64};
 ghost use Rattle.endian.specs.Place.{size_of, section_header};
-ghost use Rattle.parse.specs.Entry.{entry_fault};
 ghost use Rattle.section.specs.Layout.{section_at, extent_of};
 
-use endian::{Class, Fault, Order};
+use endian::{Class, Number, Order};
+use parse::ParseAt;
 
-#[derive(Clone, Copy)]
+#[derive(Clone, Copy, Debug, PartialEq, Eq)]
 pub struct SectionHeader {
     pub name: u32,
     pub kind: u32,
@@ -25,7 +25,7 @@ pub struct SectionHeader {
 }
 
 // Where a section's bytes stand, and what they are entries of: what a walk over sections asks of most of them.
-#[derive(Clone, Copy)]
+#[derive(Clone, Copy, Debug, PartialEq, Eq)]
 pub struct Extent {
     pub offset: u64,
     pub size: u64,
@@ -33,137 +33,74 @@ pub struct Extent {
     pub entsize: u64,
 }
 
-#[derive(Clone, Copy)]
-pub enum GotSectionHeader {
-    Is(SectionHeader),
-    Refused(Fault),
-}
-
-pub fn size_of(class: Class) -> usize
-    ensures { result ≡ size_of section_header class }
-{
-    match class {
-        Class::Elf32 => 40,
-        Class::Elf64 => 64,
+impl SectionHeader {
+    pub fn extent(self) -> Extent
+        ensures { result ≡ extent_of self }
+    {
+        Extent {
+            offset: self.offset,
+            size: self.size,
+            link: self.link,
+            entsize: self.entsize,
+        }
     }
 }
 
-fn extent32(order: Order, t: &[u8], o: usize) -> Extent
-    requires { o + 40 ≤ length t.now }
-    ensures { result ≡ extent_of (section_at Class.Elf32 order t.now o) }
-{
-    Extent {
-        offset: endian::u32_in(order, t, o + 16) as u64,
-        size: endian::u32_in(order, t, o + 20) as u64,
-        link: endian::u32_in(order, t, o + 24),
-        entsize: endian::u32_in(order, t, o + 36) as u64,
+impl ParseAt for Extent {
+    ghost size = { size_of section_header };
+
+    ghost at = { λ c e s o. extent_of (section_at c e s o) };
+
+    fn size_of(class: Class) -> usize {
+        SectionHeader::size_of(class)
     }
+
+    // The places are the ABI's, w being the bytes of a number as wide as the class.
+    #[inline(always)]
+    #[tactic(auto, unfolding(crate::specs::Layout::section_at))]
+    fn read(class: Class, order: Order, t: &[u8], o: usize) -> Extent {
+        let w = class.word();
+        Extent {
+            offset: endian::word_in(class, order, t, o + 8 + 2 * w),
+            size: endian::word_in(class, order, t, o + 8 + 3 * w),
+            link: u32::read(order, t, o + 8 + 4 * w),
+            entsize: endian::word_in(class, order, t, o + 16 + 5 * w),
+        }
+    }
+
+    ghost some_bytes = { elim [ Elf32 ↦ lit< tt | Elf64 ↦ lit< tt ] };
 }
 
-fn extent64(order: Order, t: &[u8], o: usize) -> Extent
-    requires { o + 64 ≤ length t.now }
-    ensures { result ≡ extent_of (section_at Class.Elf64 order t.now o) }
-{
-    Extent {
-        offset: endian::u64_in(order, t, o + 24),
-        size: endian::u64_in(order, t, o + 32),
-        link: endian::u32_in(order, t, o + 40),
-        entsize: endian::u64_in(order, t, o + 56),
-    }
-}
+impl ParseAt for SectionHeader {
+    ghost size = { size_of section_header };
 
-fn section32(order: Order, t: &[u8], o: usize) -> SectionHeader
-    requires { o + 40 ≤ length t.now }
-    ensures { result ≡ section_at Class.Elf32 order t.now o }
-{
-    let x = extent32(order, t, o);
-    SectionHeader {
-        name: endian::u32_in(order, t, o),
-        kind: endian::u32_in(order, t, o + 4),
-        flags: endian::u32_in(order, t, o + 8) as u64,
-        addr: endian::u32_in(order, t, o + 12) as u64,
-        offset: x.offset,
-        size: x.size,
-        link: x.link,
-        info: endian::u32_in(order, t, o + 28),
-        addralign: endian::u32_in(order, t, o + 32) as u64,
-        entsize: x.entsize,
-    }
-}
+    ghost at = { section_at };
 
-fn section64(order: Order, t: &[u8], o: usize) -> SectionHeader
-    requires { o + 64 ≤ length t.now }
-    ensures { result ≡ section_at Class.Elf64 order t.now o }
-{
-    let x = extent64(order, t, o);
-    SectionHeader {
-        name: endian::u32_in(order, t, o),
-        kind: endian::u32_in(order, t, o + 4),
-        flags: endian::u64_in(order, t, o + 8),
-        addr: endian::u64_in(order, t, o + 16),
-        offset: x.offset,
-        size: x.size,
-        link: x.link,
-        info: endian::u32_in(order, t, o + 44),
-        addralign: endian::u64_in(order, t, o + 48),
-        entsize: x.entsize,
+    fn size_of(class: Class) -> usize {
+        match class {
+            Class::Elf32 => 40,
+            Class::Elf64 => 64,
+        }
     }
-}
 
-// The entry at an offset, where it is whole. Class and order are told apart here, once for all fields.
-pub fn section_in(class: Class, order: Order, t: &[u8], o: usize) -> SectionHeader
-    requires { o + size_of section_header class ≤ length t.now }
-    ensures { result ≡ section_at class order t.now o }
-{
-    match class {
-        Class::Elf32 => match order {
-            Order::Little => section32(Order::Little, t, o),
-            Order::Big => section32(Order::Big, t, o),
-        },
-        Class::Elf64 => match order {
-            Order::Little => section64(Order::Little, t, o),
-            Order::Big => section64(Order::Big, t, o),
-        },
+    #[inline(always)]
+    #[tactic(auto, unfolding(crate::specs::Layout::section_at))]
+    fn read(class: Class, order: Order, t: &[u8], o: usize) -> SectionHeader {
+        let w = class.word();
+        let x = Extent::read(class, order, t, o);
+        SectionHeader {
+            name: u32::read(order, t, o),
+            kind: u32::read(order, t, o + 4),
+            flags: endian::word_in(class, order, t, o + 8),
+            addr: endian::word_in(class, order, t, o + 8 + w),
+            offset: x.offset,
+            size: x.size,
+            link: x.link,
+            info: u32::read(order, t, o + 12 + 4 * w),
+            addralign: endian::word_in(class, order, t, o + 16 + 4 * w),
+            entsize: x.entsize,
+        }
     }
-}
 
-// The extent of that entry, likewise.
-pub fn extent_in(class: Class, order: Order, t: &[u8], o: usize) -> Extent
-    requires { o + size_of section_header class ≤ length t.now }
-    ensures { result ≡ extent_of (section_at class order t.now o) }
-{
-    match class {
-        Class::Elf32 => match order {
-            Order::Little => extent32(Order::Little, t, o),
-            Order::Big => extent32(Order::Big, t, o),
-        },
-        Class::Elf64 => match order {
-            Order::Little => extent64(Order::Little, t, o),
-            Order::Big => extent64(Order::Big, t, o),
-        },
-    }
-}
-
-// The fault of entry i. The class is told apart first, so that the quotient in the test is of two constants.
-pub fn fault_in(class: Class, len: usize, i: usize) -> Fault
-    ensures { result ≡ entry_fault (size_of section_header class) len i }
-{
-    match class {
-        Class::Elf32 => parse::entry_fault(40, len, i),
-        Class::Elf64 => parse::entry_fault(64, len, i),
-    }
-}
-
-// Entry i of a table.
-pub fn entry(class: Class, order: Order, t: &[u8], i: usize) -> GotSectionHeader
-    ensures { result ≡ answer (entry_fault (size_of section_header class) (length t.now) i)
-        (GotSectionHeader.Is (section_at class order t.now (i * size_of section_header class))) GotSectionHeader.Refused }
-{
-    let size = size_of(class);
-    let f = fault_in(class, t.len(), i);
-    if f.number == 0 {
-        GotSectionHeader::Is(section_in(class, order, t, i * size))
-    } else {
-        GotSectionHeader::Refused(f)
-    }
+    ghost some_bytes = { elim [ Elf32 ↦ lit< tt | Elf64 ↦ lit< tt ] };
 }

@@ -1,3 +1,5 @@
+-- The crate's laws, a file each.
+-- Assumes nothing.
 pub mod Search
 pub mod Laws
 pub mod Runs

@@ -14,14 +14,14 @@ use lib.Dec.{eqb, leb, ltb}
 use borrow.Author.Tests.{eqb-true, eqb-false, leb-true, leb-false, ltb-true, lt-ltb}
 use Rattle.marks.specs.Marks.{marked, marking}
 use Rattle.marks.proofs.Laws.{fresh, marking_length, marking_told, marking_keeps, marking_marks}
-use Rattle.parse.specs.declared.Found.TheVariants.{At}
-use Rattle.string_table.specs.Text.{last_zero, text_at, same_bytes, same_run, is_clean}
-use Rattle.string_table.specs.Noted.{span_of, front_of, ending, Noted, noting}
-use Rattle.string_table.proofs.Laws.{Agrees, agrees_same, stands, same_bytes_lem, same_refused, same_known, clean_byte, all_clean, run_byte, last_inside}
+use Rattle.std.specs.Prelude.{Some, Ok}
+use Rattle.string_table.specs.Text.{last_zero, ends_of, text_fault, text_at, same_bytes, same_run, is_clean}
+use Rattle.string_table.specs.Noted.{span_of, front_of, ending, Noted, noting, Notes, noted}
+use Rattle.string_table.proofs.Laws.{ends_inside, stands_below, there_below, there_last, at_outside, Agrees, agrees_same, stands, same_bytes_lem, same_refused, same_known, clean_byte, all_clean, run_byte, last_inside}
 use Rattle.string_table.proofs.Runs.{run_matched, run_other}
 
 clash : (b : Bool) → b ≡ true → b ≡ false → ⊥
-clash b p q = let k : true ≡ false = sym p ∙ q in let y : ◌≡◌ {A = ℕ} 0 1 = cc in omega arith
+clash b p q = let k : true ≡ false = sym p ∙ q in cc
 
 pub none_noted : (t name : List ℕ) → Noted t name (span_of (length t)) (replicate 1024 0)
 none_noted t name =
@@ -73,7 +73,7 @@ module _ (t name : List ℕ) (span o : ℕ) (marks : List ℕ) where
 pub rest : (k : ℕ) (s : List ℕ) → take (length s - k) (drop k s) ≡ drop k s
 rest k s = take_all (length s - k) (drop k s) (rw (length-drop) (omega arith))
 
-module _ (t : List ℕ) (l : ℕ) (name : List ℕ) (span : ℕ) (last : last_zero t ≡ At l) (clean : is_clean name ≡ true) (some : 0 < span) (long : span < length name) where
+module _ (t : List ℕ) (l : ℕ) (name : List ℕ) (span : ℕ) (last : last_zero t ≡ Some l) (clean : is_clean name ≡ true) (some : 0 < span) (long : span < length name) where
   abbrev tail : List ℕ
   tail = drop (front_of span name) name
 
@@ -191,10 +191,14 @@ module _ (t : List ℕ) (l : ℕ) (name : List ℕ) (span : ℕ) (last : last_ze
       byte b j q = rw (get_or-drop, add_assoc o (front_of span name) j) (run_byte t o name b (front_of span name + j) q)
 
 -- what is noted stays true
-pub noting_true : (t : List ℕ) (l : ℕ) (name : List ℕ) (span : ℕ) (marks : List ℕ) → last_zero t ≡ At l → is_clean name ≡ true → Noted t name span marks
+pub noting_true : (t : List ℕ) (l : ℕ) (name : List ℕ) (span : ℕ) (marks : List ℕ) → last_zero t ≡ Some l → is_clean name ≡ true → Noted t name span marks
     → (o : ℕ) → o ≤ l → Noted t name span (noting t name span o marks)
 noting_true t l name span marks last clean n o h =
     noting_cases t name span o marks (Noted t name span) n (λ g e k s. noted_more t l name span last clean n.some g marks n o h e s)
+
+pub noted_true : (t : List ℕ) (o : ℕ) (name : List ℕ) (marks : List ℕ) → text_fault t o ≡ Ok tt → is_clean name ≡ true → Notes t name marks → Notes t name (noted t name o marks)
+noted_true t o name marks there clean n =
+    let b = there_below t o there in noting_true t (ends_of t - 1) name (span_of (length t)) marks (there_last t o there) clean n o (omega arith)
 
 -- it stays marked, and a string that was compared in full is marked: so that is done once
 pub noting_keeps : (t : List ℕ) (name : List ℕ) (span : ℕ) (marks : List ℕ) → Noted t name span marks → (o : ℕ) → o ≤ length t → (i : ℕ) → marked marks i ≡ true
@@ -209,3 +213,57 @@ noting_settles t name span marks n o h g e s = pick (marked marks (o / span)) re
     pick : (x : Bool) → marked marks (o / span) ≡ x → marked (noting t name span o marks) (o / span) ≡ true
     pick true m = noting_keeps t name span marks n o h (o / span) m
     pick false m = rw (noting_new t name span o marks g e m s) (marking_marks marks (o / span) (marks_room t name span marks n o h))
+
+-- the steps of a comparison that notes, at an offset at which a string stands
+module _ (t : List ℕ) (o : ℕ) (name : List ℕ) (marks : List ℕ) (there : text_fault t o ≡ Ok tt) (clean : is_clean name ≡ true) (n : Notes t name marks)
+    (span : ℕ) (s : span ≡ span_of (length t)) where
+  abbrev last : ℕ
+  last = ends_of t - 1
+
+  own : Noted t name span marks
+  own = rw s n
+
+  -- what was answered, and what is noted then
+  abbrev pub Compared : Bool → List ℕ → Type 0
+  Compared b m = (b ≡ same_bytes (text_at t o) name) × (m ≡ noted t name o marks)
+
+  compared : (b : Bool) (m : List ℕ) → b ≡ same_bytes (text_at t o) name → noting t name span o marks ≡ m → Compared b m
+  compared b m p q = (p, sym (rw s at q))
+
+  pub mark_there : o / span < 8 * length marks
+  mark_there = let b = there_below t o there in let e = ends_inside t in marks_room t name span marks own o (omega arith)
+
+  pub short : length name ≤ span → (b : Bool) → b ≡ same_bytes (text_at t o) name → Compared b marks
+  short h b p = compared b marks p (noting_short t name span o marks h)
+
+  module _ (long : span < length name) where
+    pub outside : ends_of t ≤ o + length name → Compared false marks
+    outside h =
+        let b = there_below t o there in
+        compared false marks (sym (at_outside t o there name h))
+        (noting_unended t name span o marks (no_room t last name span (there_last t o there) clean own.some long o (omega arith)))
+
+    pub tail_there : o + length name < ends_of t → text_fault t (o + front_of span name) ≡ Ok tt
+    tail_there h = stands_below t (o + front_of span name) (omega arith)
+
+    pub rest_clean : is_clean (take (length name - front_of span name) (drop (front_of span name) name)) ≡ true
+    rest_clean = rw (rest (front_of span name) name) (tail_clean t last name span (there_last t o there) clean own.some long)
+
+    pub unended : o + length name < ends_of t → ending t name span o ≡ false → Compared false marks
+    unended h e =
+        compared false marks (sym (no_ending t last name span (there_last t o there) clean own.some long o (omega arith) e))
+        (noting_unended t name span o marks e)
+
+    module _ (h : o + length name < ends_of t) (e : ending t name span o ≡ true) where
+      pub front_same : same_run t o (take (front_of span name) name) ≡ same_bytes (text_at t o) name
+      front_same = front_decides t last name span (there_last t o there) clean own.some long o (omega arith) e
+
+      pub seen_before : marked marks (o / span) ≡ true → Compared false marks
+      seen_before m = compared false marks (sym (own.other o m e)) (noting_marked t name span o marks m)
+
+      pub seen_same : same_run t o (take (front_of span name) name) ≡ true → Compared true marks
+      seen_same r = let k = sym r ∙ front_same in compared true marks k (noting_same t name span o marks (sym k))
+
+      pub seen_new : marked marks (o / span) ≡ false → same_run t o (take (front_of span name) name) ≡ false
+          → Compared false (marking marks (o / span))
+      seen_new m r = let k = sym r ∙ front_same in compared false (marking marks (o / span)) k (noting_new t name span o marks long e m (sym k))

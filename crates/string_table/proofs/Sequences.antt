@@ -1,28 +1,16 @@
--- The laws of `within`, `follows` and `step_of`: well-formed UTF-8, a byte at a time.
+-- The laws of `follows` and `step_of`: well-formed UTF-8, a byte at a time.
 -- Assumes nothing.
-use Prim.Native.Nat.{ℕ, zero, suc, ◌-◌, ◌<◌, ◌≤◌}
+use Prim.Native.Nat.{ℕ, zero, suc, ◌-◌}
 use native.Mathlib.Omega.{arith}
 use mathlib.Core.Path.{◌≡◌, refl, sym}
 use mathlib.Core.Bool.{Bool, true, false, cond, ◌&&◌}
 use mathlib.Core.List.{List, [], ◌∷◌}
 use lib.ListN.{replicate}
 use lib.Dec.{leb, eqb}
-use borrow.Author.Tests.{le-leb, lt-leb, leb-true, ne_eqb}
-use Rattle.string_table.specs.Utf8.{Span, span, within, tail, never, follows, step_of, pending, awaited}
+use borrow.Author.Tests.{leb-true, ne_eqb}
+use Rattle.std.proofs.Common.{◌++◌, append_assoc, append-nil, ◌∙◌}
+use Rattle.string_table.specs.Utf8.{Span, span, within, tail, never, follows, well_formed, step_of, pending, awaited}
 use Rattle.string_table.specs.declared.Awaited.{Awaited}
-
-pub inside : (l h b : ℕ) → l ≤ b → b ≤ h → within (span l h) b ≡ true
-inside l h b p q = rw (le-leb l b p, le-leb b h q)
-
-pub below : (l h b : ℕ) → b < l → within (span l h) b ≡ false
-below l h b p = rw (lt-leb l b p)
-
-pub above : (l h b : ℕ) → h < b → within (span l h) b ≡ false
-above l h b p = pick (leb l b)
-  where
-    pick : (t : Bool) → (t && leb b h) ≡ false
-    pick true = lt-leb b h p
-    pick false = refl
 
 -- nothing follows a byte that starts no sequence
 never_follows : (ps : List Span) (s : List ℕ) → follows (never ∷ ps) s ≡ false
@@ -58,10 +46,6 @@ awaited_some a n = pick a.more n
     pick zero h = absurd (h refl)
     pick (suc m) h = let e : suc m - 1 ≡ m = omega arith in rw e
 
-pub awaited_tails : (m : ℕ) → pending m 0x80 0xbf ≡ replicate m tail
-awaited_tails zero = refl
-awaited_tails (suc m) = refl
-
 -- at the end of the bytes nothing may be awaited
 pub follows_end : (a : Awaited) → eqb a.more 0 ≡ follows (awaited a) []
 unfolding follows awaited
@@ -70,3 +54,14 @@ follows_end a = pick a.more
     pick : (m : ℕ) → eqb m 0 ≡ follows (pending m a.low a.high) []
     pick zero = refl
     pick (suc m) = ne_eqb (suc m) 0 (λ e. omega arith)
+
+-- the bytes s have come, and ps must follow
+abbrev pub Passed : List ℕ → List Span → Type 0
+Passed s ps = (rest : List ℕ) → follows [] (s ++ rest) ≡ follows ps rest
+
+pub passed_more : (s : List ℕ) (b : ℕ) (ps qs : List Span) → Passed s ps → qs ≡ step_of ps b → Passed (s ++ (b ∷ [])) qs
+passed_more s b ps qs h e rest = rw (append_assoc s (b ∷ []) rest, e) (h (b ∷ rest) ∙ step ps b rest)
+
+pub passed_all : (s : List ℕ) (a : Awaited) → Passed s (awaited a) → eqb a.more 0 ≡ well_formed s
+unfolding well_formed
+passed_all s a h = follows_end a ∙ sym (rw (append-nil s) at (h []))

@@ -1,3 +1,5 @@
+-- The crate's definitions, a file each.
+-- Assumes nothing.
 pub mod Text
 pub mod Noted
 pub mod Utf8

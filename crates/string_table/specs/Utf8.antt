@@ -7,11 +7,12 @@
 -- well_formed s       s is a sequence of rows
 -- awaited m l h       m bytes that are still to come, the first of them from l to h
 -- step_of ps b         what must follow when b has come and ps were awaited
--- utf8_fault s o      the string's fault, then 13 where it is not UTF-8
+-- utf8_fault s o      the string's fault, then NotUtf8 where it is not UTF-8
 -- Assumes nothing.
-use Rattle.std.specs.Prelude.{ℕ, zero, suc, Bool, true, false, cond, ◌&&◌, List, [], ◌∷◌, replicate, leb}
-use Rattle.endian.specs.declared.Fault.{Fault}
-use Rattle.endian.specs.Range.{faulty, no_fault, answer}
+use Rattle.std.specs.Prelude.{ℕ, zero, suc, Bool, true, false, cond, ◌&&◌, List, [], ◌∷◌, replicate, leb, Result, Ok, Err, ⊤}
+use Rattle.endian.specs.declared.fault.Fault.{Fault}
+use Rattle.endian.specs.declared.fault.Fault.TheVariants.{NotUtf8}
+use Rattle.endian.specs.Range.{◌>>=◌}
 use Rattle.string_table.specs.Text.{text_fault, text_at}
 use Rattle.string_table.specs.declared.Awaited.{Awaited}
 
@@ -66,5 +67,5 @@ unfoldable pub step_of : List Span → ℕ → List Span
 step_of [] b = row_of b
 step_of (p ∷ ps) b = cond (within p b) ps (never ∷ [])
 
-unfoldable pub utf8_fault : List ℕ → ℕ → Fault
-utf8_fault s o = answer (text_fault s o) (cond (well_formed (text_at s o)) no_fault (faulty 13)) (λ f. f)
+unfoldable pub utf8_fault : List ℕ → ℕ → Result ⊤ Fault
+utf8_fault s o = text_fault s o >>= λ _. cond (well_formed (text_at s o)) (Ok tt) (Err NotUtf8)

@@ -1,128 +1,195 @@
-// Strings of a string table: where one ends, whether one stands at an offset, its bytes as a range, as UTF-8, and whether it is a given name.
-// Where many strings of one table are asked for, `last_zero` is asked once: then `fault_with` tells in one step whether a string
-// stands at an offset, and `same_at` compares it with a name without a search for its end, eight bytes at a time. Where one offset
-// may be asked about again and again, `same_noted` compares a name that is longer than a span in full only once with each string.
+// Strings of a string table: where one ends, whether one stands at an offset, its bytes as a range, as UTF-8, and whether it is a
+// given name.
+// Where many strings of one table are asked for, `Strings` finds its last zero byte once: then `fault` tells in one step whether a
+// string stands at an offset, and `same_at` compares it with a name without a search for its end, eight bytes at a time. Where one
+// offset may be asked about again and again, `same_noted` compares a name that is longer than a span in full only once with each
+// string.
 #![tactic(auto)]
 
-ghost use Rattle.std.specs.Prelude.{◌≡◌, true, ◌+◌, ◌≤◌, length};
+ghost use Rattle.std.specs.Prelude.{◌≡◌, true, ◌+◌, ◌≤◌, length, Ok};
 ghost use Rattle.endian.specs.Range.{answer};
-ghost use Rattle.parse.specs.declared.Found.{Found};
-ghost use Rattle.string_table.specs.Text.{end_of, last_zero, text_fault, fault_with, text_at, text_range, same_bytes, same_run, is_clean, compared};
+ghost use Rattle.string_table.specs.Text.{end_of, last_zero, ends_of, text_fault, text_at, text_range, same_bytes, same_run, is_clean};
 ghost use Rattle.string_table.specs.Noted.{is_long, span_of, Notes, noted};
 ghost use Rattle.string_table.specs.Utf8.{row_of, pending, awaited, step_of, well_formed, utf8_fault};
 
-use endian::{Fault, Order};
-use parse::{Found, GotRange, Range};
+use endian::{Fault, Number, Order};
+use parse::Range;
 
 // Where the first zero byte at or behind o stands.
-pub fn end_of(t: &[u8], o: usize) -> Found
+#[tactic(auto, using(parse::proofs::Laws::first_here, parse::proofs::Laws::first_later, parse::proofs::Laws::first_none, std::proofs::lemmas::Bool::Decides::nat_tests), unfolding(crate::specs::Text::end_of))]
+pub fn end_of(t: &[u8], o: usize) -> Option<usize>
     ensures { result ≡ end_of t.now o }
 {
-    let mut i = o;
-    while i < t.len() {
-        let b = t[i];
-        if b == 0 {
-            return Found::At(i);
+    for i in o..t.len() {
+        if t[i] == 0 {
+            return Some(i);
         }
-        i += 1;
     }
-    Found::Nothing
+    None
 }
 
 // Where the last zero byte of a table stands. A table ends with one as a rule, so this looks from the end.
-pub fn last_zero(t: &[u8]) -> Found
+pub fn last_zero(t: &[u8]) -> Option<usize>
     ensures { result ≡ last_zero t.now }
 {
-    let mut n = t.len();
-    while n > 0 {
-        let i = n - 1;
-        let b = t[i];
-        if b == 0 {
-            return Found::At(i);
-        }
-        n = i;
-    }
-    Found::Nothing
+    t.iter().rposition(|b| *b == 0)
 }
 
-// No fault where a string stands at o, else the fault of the first test that fails.
-pub fn text_fault(t: &[u8], o: usize) -> Fault
+// The string at o, as a range of the table, else the fault of the first test that fails.
+#[tactic(auto, unfolding(crate::specs::Text::text_fault, crate::specs::Text::text_range))]
+pub fn text(t: &[u8], o: usize) -> Result<Range, Fault>
+    ensures { result ≡ answer (text_fault t.now o) (text_range t.now o) }
+{
+    if t.is_empty() || t.len() < o {
+        return Err(Fault::BadOffset);
+    }
+    let to = end_of(t, o).ok_or(Fault::NoZeroByte)?;
+    Ok(Range { from: o, to })
+}
+
+// Whether a string stands at o.
+pub fn text_fault(t: &[u8], o: usize) -> Result<(), Fault>
     ensures { result ≡ text_fault t.now o }
 {
-    let n = t.len();
-    if n == 0 {
-        return Fault { number: 5 };
-    }
-    if n < o {
-        return Fault { number: 5 };
-    }
-    let f = end_of(t, o);
-    match f {
-        Found::At(_) => Fault { number: 0 },
-        Found::Nothing => Fault { number: 6 },
-    }
-}
-
-// The same of a table of len bytes whose last zero byte is known: a string stands at o exactly where o is not behind that byte.
-pub fn fault_with(last: Found, len: usize, o: usize) -> Fault
-    ensures { result ≡ fault_with last len o }
-{
-    if len == 0 {
-        return Fault { number: 5 };
-    }
-    if len < o {
-        return Fault { number: 5 };
-    }
-    match last {
-        Found::At(e) => {
-            if o <= e {
-                return Fault { number: 0 };
-            }
-            Fault { number: 6 }
-        }
-        Found::Nothing => Fault { number: 6 },
-    }
-}
-
-// The string at o, as a range of the table.
-pub fn text(t: &[u8], o: usize) -> GotRange
-    ensures { result ≡ answer (text_fault t.now o) (GotRange.Is (text_range t.now o)) GotRange.Refused }
-{
-    let n = t.len();
-    if n == 0 {
-        return GotRange::Refused(Fault { number: 5 });
-    }
-    if n < o {
-        return GotRange::Refused(Fault { number: 5 });
-    }
-    let f = end_of(t, o);
-    match f {
-        Found::At(e) => GotRange::Is(Range { from: o, to: e }),
-        Found::Nothing => GotRange::Refused(Fault { number: 6 }),
-    }
+    text(t, o)?;
+    Ok(())
 }
 
 // Whether no byte of a name is zero. A string of a table holds none, so a name that does is never one of its strings.
 pub fn is_clean(name: &[u8]) -> bool
     ensures { result ≡ is_clean name.now }
 {
-    let mut clean = true;
-    let mut i = 0;
-    while i < name.len() {
-        clean = clean & (name[i] != 0);
-        i += 1;
+    // Every byte is looked at, and no branch depends on one: that takes many bytes at a time.
+    name.iter().fold(true, |clean, b| clean & (*b != 0))
+}
+
+// A string stands at each offset below `ends`, the place behind the last zero byte, and at no other.
+#[derive(Clone, Copy)]
+pub struct Strings<'a> {
+    pub bytes: &'a [u8],
+    pub ends: usize,
+    pub ghost known: { ends ≡ ends_of bytes.now },
+}
+
+// A name, and whether it holds no zero byte: told once, as many strings are compared with one name.
+#[derive(Clone, Copy)]
+pub struct Name<'a> {
+    pub bytes: &'a [u8],
+    pub clean: bool,
+    pub ghost told: { clean ≡ is_clean bytes.now },
+}
+
+impl<'a> Name<'a> {
+    pub fn new(bytes: &'a [u8]) -> Name<'a>
+        ensures { result.bytes.now ≡ bytes.now }
+    {
+        Name {
+            bytes,
+            clean: is_clean(bytes),
+        }
     }
-    clean
+}
+
+impl<'a> Strings<'a> {
+    #[tactic(auto, using(crate::proofs::Laws::last_inside))]
+    pub fn new(bytes: &'a [u8]) -> Strings<'a>
+        ensures { result.bytes.now ≡ bytes.now }
+    {
+        let ends = match last_zero(bytes) {
+            Some(last) => last + 1,
+            None => 0,
+        };
+        Strings { bytes, ends }
+    }
+
+    // Whether a string stands at o.
+    #[tactic(auto, using(crate::proofs::Laws::stands_below, crate::proofs::Laws::none_behind, std::proofs::lemmas::Bool::Decides::nat_tests))]
+    pub fn fault(&self, o: usize) -> Result<(), Fault>
+        ensures { result ≡ text_fault self.now.bytes.now o }
+    {
+        if o < self.ends {
+            return Ok(());
+        }
+        if self.bytes.is_empty() || self.bytes.len() < o {
+            return Err(Fault::BadOffset);
+        }
+        Err(Fault::NoZeroByte)
+    }
+
+    // Whether the string at o is the name.
+    // The end is not searched for: the string can only be the name if a zero byte stands n bytes behind o. From there the comparison
+    // goes backwards. The name holds no zero byte, so agreement ends at the zero byte before at the latest. Two offsets never share
+    // the place n bytes behind them, so all comparisons of one name with distinct offsets take together at most as many turns as the
+    // table has bytes.
+    #[tactic(auto, using(crate::proofs::Laws::ends_inside, crate::proofs::Laws::there_below, crate::proofs::Laws::at_outside, crate::proofs::Laws::at_unended, crate::proofs::Laws::at_run))]
+    pub fn same_at(&self, o: usize, name: &[u8]) -> bool
+        requires there { text_fault self.now.bytes.now o ≡ Ok tt }
+        requires clean { is_clean name.now ≡ true }
+        ensures { result ≡ same_bytes (text_at self.now.bytes.now o) name.now }
+    {
+        let n = name.len();
+        if self.ends - o <= n || self.bytes[o + n] != 0 {
+            return false;
+        }
+        same_run(self.bytes, o, name)
+    }
+
+    // How many offsets one mark stands for: as many as it takes to mark all offsets of the table with 1,024 bytes of marks.
+    fn span(&self) -> usize
+        ensures { result ≡ span_of (length self.now.bytes.now) }
+    {
+        self.bytes.len() / 8192 + 1
+    }
+
+    // The same of a long name, where one offset may come many times. A mark stands for a span of offsets. If it is set, the string is
+    // not the name at those of them where the name's last bytes, as many as a span has, stand before a zero byte. There is at most one
+    // such offset to a mark: the name holds no zero byte, so two of them are more than a span apart. So a comparison reads no more than
+    // a span's bytes of the name, but for one at each offset that reads the rest of it.
+    pub fn same_noted(&self, o: usize, name: &[u8], marks: &mut [u8]) -> bool
+        requires there { text_fault self.now.bytes.now o ≡ Ok tt }
+        requires clean { is_clean name.now ≡ true }
+        requires noted_before { Notes self.now.bytes.now name.now marks.old }
+        ensures answer { result ≡ same_bytes (text_at self.now.bytes.now o) name.now }
+        ensures noted_after { marks.new ≡ noted self.now.bytes.now name.now o marks.old }
+    {
+        let span = self.span();
+        if name.len() <= span {
+            return self.same_at(o, name);
+        }
+        if self.ends - o <= name.len() {
+            return false;
+        }
+        let front = name.len() - span;
+        if !self.same_at(o + front, &name[front..]) {
+            return false;
+        }
+        let i = o / span;
+        if marks::is_marked(marks, i) {
+            return false;
+        }
+        if same_run(self.bytes, o, &name[..front]) {
+            return true;
+        }
+        marks::mark(marks, i);
+        false
+    }
+
+    // Whether the string at o is the name. An offset where no string stands is refused.
+    #[tactic(auto, using(crate::proofs::Laws::unclean_other))]
+    pub fn compare(&self, o: usize, name: &Name) -> Result<bool, Fault>
+        ensures { result ≡ answer (text_fault self.now.bytes.now o) (same_bytes (text_at self.now.bytes.now o) name.now.bytes.now) }
+    {
+        self.fault(o)?;
+        Ok(name.clean && self.same_at(o, name.bytes))
+    }
 }
 
 // Whether the bytes of a name stand at o, a byte at a time, from the end backwards.
-fn same_bytes(t: &[u8], o: usize, name: &[u8]) -> bool
+fn same_short(t: &[u8], o: usize, name: &[u8]) -> bool
     requires { o + length name.now ≤ length t.now }
     ensures { result ≡ same_run t.now o name.now }
 {
-    let mut k = name.len();
-    while k > 0 {
-        k -= 1;
+    for k in (0..name.len()).rev() {
         if t[o + k] != name[k] {
             return false;
         }
@@ -137,14 +204,15 @@ fn same_words(t: &[u8], o: usize, name: &[u8]) -> bool
     requires room { o + length name.now ≤ length t.now }
     ensures { result ≡ same_run t.now o name.now }
 {
+    // By hand, since no iterator says it plainer: `(1..name.len() - 7).rev().step_by(8)`.
     let mut k = name.len();
     while k > 8 {
         k -= 8;
-        if endian::u64_in(Order::Little, t, o + k) != endian::u64_in(Order::Little, name, k) {
+        if u64::read(Order::Little, t, o + k) != u64::read(Order::Little, name, k) {
             return false;
         }
     }
-    endian::u64_in(Order::Little, t, o) == endian::u64_in(Order::Little, name, 0)
+    u64::read(Order::Little, t, o) == u64::read(Order::Little, name, 0)
 }
 
 // Whether the bytes of a name stand at o.
@@ -153,30 +221,9 @@ fn same_run(t: &[u8], o: usize, name: &[u8]) -> bool
     ensures { result ≡ same_run t.now o name.now }
 {
     if name.len() < 8 {
-        return same_bytes(t, o, name);
+        return same_short(t, o, name);
     }
     same_words(t, o, name)
-}
-
-// Whether the string at o is the name, in a table whose last zero byte stands at `last`, at or behind o.
-// The end is not searched for: the string can only be the name if a zero byte stands n bytes behind o. From there the comparison
-// goes backwards. The name holds no zero byte, so agreement ends at the zero byte before at the latest. Two offsets never share
-// the place n bytes behind them, so all comparisons of one name with distinct offsets take together at most as many turns as the
-// table has bytes.
-pub fn same_at(t: &[u8], last: usize, o: usize, name: &[u8]) -> bool
-    requires last_known { last_zero t.now ≡ Found.At last }
-    requires before_last { o ≤ last }
-    requires clean { is_clean name.now ≡ true }
-    ensures { result ≡ same_bytes (text_at t.now o) name.now }
-{
-    let n = name.len();
-    if last - o < n {
-        return false;
-    }
-    if t[o + n] != 0 {
-        return false;
-    }
-    same_run(t, o, name)
 }
 
 // Whether a name is so long that it is worth noting which strings are not the name: a shorter one is compared in 32 turns at most.
@@ -186,179 +233,69 @@ pub fn is_long(name: &[u8]) -> bool
     name.len() >= 256
 }
 
-// How many offsets one mark stands for: as many as it takes to mark all offsets of a table of len bytes with 1,024 bytes of marks.
-fn span_of(len: usize) -> usize
-    ensures { result ≡ span_of len }
-{
-    len / 8192 + 1
-}
-
-// The same of a long name, where one offset may come many times. A mark stands for a span of offsets. If it is set, the string is
-// not the name at those of them where the name's last bytes, as many as a span has, stand before a zero byte. There is at most one
-// such offset to a mark: the name holds no zero byte, so two of them are more than a span apart. So a comparison reads no more than
-// a span's bytes of the name, but for one at each offset that reads the rest of it.
-pub fn same_noted(t: &[u8], last: usize, o: usize, name: &[u8], marks: &mut [u8]) -> bool
-    requires last_known { last_zero t.now ≡ Found.At last }
-    requires before_last { o ≤ last }
-    requires clean { is_clean name.now ≡ true }
-    requires noted_before { Notes t.now name.now marks.old }
-    ensures answer { result ≡ same_bytes (text_at t.now o) name.now }
-    ensures noted_after { marks.new ≡ noted t.now name.now o marks.old }
-{
-    let n = name.len();
-    let span = span_of(t.len());
-    if n <= span {
-        return same_at(t, last, o, name);
-    }
-    if last - o < n {
-        return false;
-    }
-    let front = n - span;
-    if !same_at(t, last, o + front, &name[front..n]) {
-        return false;
-    }
-    let i = o / span;
-    if marks::is_marked(marks, i) {
-        return false;
-    }
-    if same_run(t, o, &name[0..front]) {
-        return true;
-    }
-    marks::mark(marks, i);
-    false
-}
-
-// What a comparison of a string with a name answers.
-#[derive(Clone, Copy)]
-pub enum Compared {
-    Same,
-    Other,
-    Refused(Fault),
-}
-
-// The string at o compared with a name, in a table whose last zero byte is known. An offset where no string stands is refused.
-// Whether the name is clean is told, not looked for, as many strings are compared with one name.
-pub fn compare(t: &[u8], last: Found, o: usize, name: &[u8], clean: bool) -> Compared
-    requires last_known { last ≡ last_zero t.now }
-    requires clean_known { clean ≡ is_clean name.now }
-    ensures { result ≡ answer (text_fault t.now o)
-        (compared (same_bytes (text_at t.now o) name.now)) Compared.Refused }
-{
-    let f = fault_with(last, t.len(), o);
-    if f.number != 0 {
-        return Compared::Refused(f);
-    }
-    if !clean {
-        return Compared::Other;
-    }
-    match last {
-        Found::At(l) => {
-            let same = same_at(t, l, o, name);
-            if same {
-                return Compared::Same;
-            }
-            Compared::Other
-        }
-        Found::Nothing => Compared::Other,
-    }
-}
-
 // The bytes of a sequence that are still to come: how many, and from where to where the next one may be.
-#[derive(Clone, Copy)]
+#[derive(Clone, Copy, Debug, PartialEq, Eq)]
 struct Awaited {
     more: u8,
     low: u8,
     high: u8,
 }
 
+#[tactic(auto, unfolding(crate::specs::Utf8::awaited))]
 fn awaits(more: u8, low: u8, high: u8) -> Awaited
     ensures { awaited result ≡ pending more low high }
 {
-    Awaited {
-        more: more,
-        low: low,
-        high: high,
-    }
+    Awaited { more, low, high }
 }
 
 // What must follow a byte that starts a sequence. A byte that starts none is followed by a byte that does not exist.
+#[tactic(auto, unfolding(crate::specs::Utf8::row_of), using(std::proofs::lemmas::Bool::Decides::nat_tests))]
 fn start(b: u8) -> Awaited
     ensures { awaited result ≡ row_of b }
 {
-    if b <= 127 {
-        return awaits(0, 0, 0);
+    match b {
+        0x00..=0x7f => awaits(0, 0, 0),
+        0xc2..=0xdf => awaits(1, 0x80, 0xbf),
+        0xe0 => awaits(2, 0xa0, 0xbf),
+        0xe1..=0xec => awaits(2, 0x80, 0xbf),
+        0xed => awaits(2, 0x80, 0x9f),
+        0xee..=0xef => awaits(2, 0x80, 0xbf),
+        0xf0 => awaits(3, 0x90, 0xbf),
+        0xf1..=0xf3 => awaits(3, 0x80, 0xbf),
+        0xf4 => awaits(3, 0x80, 0x8f),
+        _ => awaits(1, 1, 0),
     }
-    if b <= 193 {
-        return awaits(1, 1, 0);
-    }
-    if b <= 223 {
-        return awaits(1, 128, 191);
-    }
-    if b <= 224 {
-        return awaits(2, 160, 191);
-    }
-    if b <= 236 {
-        return awaits(2, 128, 191);
-    }
-    if b <= 237 {
-        return awaits(2, 128, 159);
-    }
-    if b <= 239 {
-        return awaits(2, 128, 191);
-    }
-    if b <= 240 {
-        return awaits(3, 144, 191);
-    }
-    if b <= 243 {
-        return awaits(3, 128, 191);
-    }
-    if b <= 244 {
-        return awaits(3, 128, 143);
-    }
-    awaits(1, 1, 0)
 }
 
 // What must follow a byte, when `a` was awaited.
+#[tactic(auto, unfolding(crate::specs::Utf8::step_of), using(std::proofs::lemmas::Bool::Decides::nat_tests, crate::proofs::Sequences::awaited_none, crate::proofs::Sequences::awaited_some))]
 fn next(a: Awaited, b: u8) -> Awaited
     ensures { awaited result ≡ step_of (awaited a) b }
 {
     if a.more == 0 {
-        return start(b);
+        start(b)
+    } else if (a.low <= b) & (b <= a.high) {
+        awaits(a.more - 1, 0x80, 0xbf)
+    } else {
+        awaits(1, 1, 0)
     }
-    if (a.low <= b) & (b <= a.high) {
-        return awaits(a.more - 1, 128, 191);
-    }
-    awaits(1, 1, 0)
 }
 
 // Whether the bytes are well-formed UTF-8.
 pub fn is_utf8(s: &[u8]) -> bool
     ensures { result ≡ well_formed s.now }
 {
-    let mut a = awaits(0, 0, 0);
-    let mut i = 0;
-    while i < s.len() {
-        a = next(a, s[i]);
-        i += 1;
-    }
-    a.more == 0
+    s.iter().fold(awaits(0, 0, 0), |a, b| next(a, *b)).more == 0
 }
 
 // The string at o, as a range of the table, if it is UTF-8.
-pub fn utf8(t: &[u8], o: usize) -> GotRange
-    ensures { result ≡ answer (utf8_fault t.now o) (GotRange.Is (text_range t.now o)) GotRange.Refused }
+#[tactic(auto, unfolding(crate::specs::Utf8::utf8_fault), using(crate::proofs::Laws::text_told))]
+pub fn utf8(t: &[u8], o: usize) -> Result<Range, Fault>
+    ensures { result ≡ answer (utf8_fault t.now o) (text_range t.now o) }
 {
-    let f = text(t, o);
-    match f {
-        GotRange::Is(r) => {
-            let from = r.from;
-            let to = r.to;
-            let good = is_utf8(&t[from..to]);
-            if good {
-                return f;
-            }
-            GotRange::Refused(Fault { number: 13 })
-        }
-        GotRange::Refused(_) => f,
+    let r = text(t, o)?;
+    if is_utf8(r.part(t)) {
+        return Ok(r);
     }
+    Err(Fault::NotUtf8)
 }

@@ -8,55 +8,10 @@ use native.Mathlib.Omega.{arith}
 use mathlib.Core.Path.{◌≡◌, refl, sym, ap, ap₂, ◌∙◌}
 use mathlib.Core.List.{List, ◌++◌}
 use lib.ListN.{length, drop, length-append, length-drop}
-use Rattle.endian.specs.declared.Order.{Order}
-use Rattle.endian.specs.declared.Class.{Class}
-use Rattle.endian.specs.declared.Class.TheVariants.{Elf32, Elf64}
 use Rattle.parse.proofs.Laws.{inside}
 use Rattle.memory.specs.Run.{put}
 use Rattle.memory.proofs.Put.{put_next}
-use Rattle.walks.specs.declared.Kind.{Kind}
-use Rattle.walks.specs.declared.Kind.TheVariants.{Section, Segment, Symbol, Packed, Rel, Rela, Dyn}
-use Rattle.walks.specs.Walk.{size_in, width_of, row_in, row_at, rows_from, batch_of}
-
--- ---- the kinds
-
-pub some_bytes : (k : Kind) (c : Class) → 0 < size_in k c
-some_bytes Section Elf32 = omega arith
-some_bytes Section Elf64 = omega arith
-some_bytes Segment Elf32 = omega arith
-some_bytes Segment Elf64 = omega arith
-some_bytes Symbol Elf32 = omega arith
-some_bytes Symbol Elf64 = omega arith
-some_bytes Packed Elf32 = omega arith
-some_bytes Packed Elf64 = omega arith
-some_bytes Rel Elf32 = omega arith
-some_bytes Rel Elf64 = omega arith
-some_bytes Rela Elf32 = omega arith
-some_bytes Rela Elf64 = omega arith
-some_bytes Dyn Elf32 = omega arith
-some_bytes Dyn Elf64 = omega arith
-
-pub some_values : (k : Kind) → 0 < width_of k
-some_values Section = omega arith
-some_values Segment = omega arith
-some_values Symbol = omega arith
-some_values Packed = omega arith
-some_values Rel = omega arith
-some_values Rela = omega arith
-some_values Dyn = omega arith
-
-row_width : (k : Kind) (c : Class) (e : Order) (t : List ℕ) (o : ℕ) → length (row_in k c e t o) ≡ width_of k
-row_width Section c e t o = refl
-row_width Segment c e t o = refl
-row_width Symbol c e t o = refl
-row_width Packed c e t o = refl
-row_width Rel c e t o = refl
-row_width Rela c e t o = refl
-row_width Dyn c e t o = refl
-
-pub row_length : (k : Kind) (c : Class) (e : Order) (t : List ℕ) (i : ℕ) → length (row_at k c e t i) ≡ width_of k
-unfolding row_at
-row_length k c e t i = row_width k c e t (i * size_in k c)
+use Rattle.walks.specs.Walk.{rows_from, batch_of}
 
 -- ---- any rows of w values
 
@@ -99,10 +54,3 @@ batch_number size len i width room k h = omega (arith, div-le_self len size)
 pub batch_rows : (size len i width room n : ℕ) → 0 < width → n ≤ batch_of size len i width room → n * width ≤ room
 unfolding batch_of
 batch_rows size len i width room n p h = (le-div_iff_mul-le {k = width} {x = n} {y = room} p).0 (omega arith)
-
--- a turn of the loop, whose size and width are those of the kind
-pub turned : (k : Kind) (c : Class) (e : Order) (t : List ℕ) (i n size width : ℕ) (old m new : List ℕ) → size ≡ size_in k c → width ≡ width_of k
-    → m ≡ rows_from (row_at k c e t) i n ++ drop (n * width_of k) old → new ≡ put (n * width) (row_in k c e t ((i + n) * size)) m
-    → new ≡ rows_from (row_at k c e t) i (n + 1) ++ drop ((n + 1) * width_of k) old
-unfolding row_at
-turned k c e t i n size width old m new p q r s = s ∙ rw (p, q, r) (turn (row_at k c e t) (width_of k) (row_length k c e t) i n old)

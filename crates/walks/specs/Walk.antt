@@ -2,10 +2,11 @@
 -- size_in k c              the bytes of an entry of the kind k in the class c
 -- width_of k                the values of such an entry, how many
 -- row_in k c e t o          the values of the entry at o of the table t
--- row_at k c e t i          the values of entry number i
 -- rows_from row i n         n rows from number i on, one behind the other
 -- batch_of size len i width room  the smaller of how many entries there are from number i on and how many have room
--- Walked                   what a walk leaves: the rows in front, the rest as it was, and how many they are
+-- Wrote size width row ..  what a walk over entries of so many bytes and values leaves: the rows in front, the rest as it was, and
+--                          how many they are
+-- Walked k ..              the same of entries of the kind k
 -- Assumes nothing.
 use Rattle.std.specs.Prelude.{ℕ, zero, suc, ◌+◌, ◌*◌, ◌-◌, ◌/◌, min, ◌≡◌, List, [], ◌++◌, length, drop}
 use Rattle.endian.specs.Place.{size_of, section_header, program_header, symbol, rel, rela, dynamic}
@@ -17,8 +18,16 @@ use Rattle.symbol.specs.Layout.{symbol_at}
 use Rattle.relocation.specs.Layout.{rel_at, rela_at}
 use Rattle.dynamic.specs.Layout.{dyn_at}
 use Rattle.rows.specs.Row.{section_row, segment_row, symbol_row, packed_row, rel_row, rela_row, dyn_row}
-use Rattle.walks.specs.declared.Kind.{Kind}
-use Rattle.walks.specs.declared.Kind.TheVariants.{Section, Segment, Symbol, Packed, Rel, Rela, Dyn}
+
+-- the kinds of entries that a walk visits; Packed: symbols, four values each
+pub data Kind : Type 0 where
+  Section : Kind
+  Segment : Kind
+  Symbol : Kind
+  Packed : Kind
+  Rel : Kind
+  Rela : Kind
+  Dyn : Kind
 
 abbrev pub size_in : Kind → Class → ℕ
 size_in Section c = size_of section_header c
@@ -47,9 +56,6 @@ row_in Rel c e t o = rel_row (rel_at c e t o)
 row_in Rela c e t o = rela_row (rela_at c e t o)
 row_in Dyn c e t o = dyn_row (dyn_at c e t o)
 
-unfoldable pub row_at : Kind → Class → Order → List ℕ → ℕ → List ℕ
-row_at k c e t i = row_in k c e t (i * size_in k c)
-
 unfoldable pub rows_from : (ℕ → List ℕ) → ℕ → ℕ → List ℕ
 rows_from row i zero = []
 rows_from row i (suc n) = rows_from row i n ++ row (i + n)
@@ -57,10 +63,9 @@ rows_from row i (suc n) = rows_from row i n ++ row (i + n)
 unfoldable pub batch_of : ℕ → ℕ → ℕ → ℕ → ℕ → ℕ
 batch_of size len i width room = min (len / size - i) (room / width)
 
--- how many entries of the kind k from number i on a walk over t writes into room for so many values
-abbrev pub visited : Kind → Class → List ℕ → ℕ → ℕ → ℕ
-visited k c t i room = batch_of (size_in k c) (length t) i (width_of k) room
+pub record Wrote (size : Class → ℕ) (width : ℕ) (row : Class → Order → List ℕ → ℕ → List ℕ) (c : Class) (e : Order) (t : List ℕ) (i : ℕ) (old new : List ℕ) (r : ℕ) : Type 0 where
+  pub many : r ≡ batch_of (size c) (length t) i width (length old)
+  pub written : new ≡ rows_from (λ k. row c e t (k * size c)) i r ++ drop (r * width) old
 
-pub record Walked (k : Kind) (c : Class) (e : Order) (t : List ℕ) (i : ℕ) (old new : List ℕ) (r : ℕ) : Type 0 where
-  pub many : r ≡ visited k c t i (length old)
-  pub written : new ≡ rows_from (row_at k c e t) i r ++ drop (r * width_of k) old
+abbrev pub Walked : Kind → Class → Order → List ℕ → ℕ → List ℕ → List ℕ → ℕ → Type 0
+Walked k = Wrote (size_in k) (width_of k) (row_in k)

@@ -2,3 +2,4 @@
 -- Assumes nothing.
 pub mod Rows
 pub mod ReadsBack
+pub mod Fits

@@ -3,19 +3,19 @@
 -- Assumes nothing.
 use Prim.Native.Nat.{ℕ, zero, suc, ◌+◌, ◌^◌, ◌<◌, ◌≤◌}
 use native.Mathlib.Omega.{arith}
-use mathlib.Core.Path.{◌≡◌, refl, sym, ap, ◌∙◌}
+use mathlib.Core.Path.{◌≡◌, refl, sym, ◌∙◌}
 use mathlib.Core.List.{List, [], ◌∷◌}
-use mathlib.Core.Bool.{Bool, true, false, cond, ◌&&◌}
+use mathlib.Core.Bool.{Bool, true, false, ◌&&◌}
 use lib.Dec.{ltb}
-use borrow.Author.Tests.{lt-ltb, ltb-true, ltb-false, ne_eqb}
-use Rattle.endian.specs.Range.{faulty, no_fault}
-use Rattle.endian.specs.declared.Fault.{Fault}
+use borrow.Author.Tests.{lt-ltb, ltb-true}
+use Rattle.std.specs.Prelude.{Ok}
 use lib.ListN.{length, get_or, set, length-set}
 use lib.Seq.{sets, length-sets, get_or-set_same}
+use Rattle.std.proofs.lemmas.Bool.Decides.{nat_tests}
 use Rattle.endian.specs.Number.{number_at, bytes_of}
 use Rattle.endian.specs.declared.Order.{Order}
 use Rattle.endian.proofs.Written.{read_back, number_same, get_d_sets_before}
-use Rattle.written.specs.Rows.{Row, write_all, Fitting, fits, fault_if, write_fault, Wrote}
+use Rattle.written.specs.Rows.{Row, write_all, Fitting, fits, room_fault, fit_fault, write_fault}
 
 -- each row starts at or behind the end of the one before, from p on, and the last ends by n
 abbrev pub Ordered : ℕ → List Row → ℕ → Type 0
@@ -72,23 +72,20 @@ both : (a b : Bool) → (a && b) ≡ true → (a ≡ true) × (b ≡ true)
 both true b e = (refl, e)
 both false b e = let z : false ≡ true = e in (z, cc)
 
-pub fitting : (rs : List Row) → fits rs ≡ true → Fitting rs
-fitting [] e = tt
-fitting (r ∷ rs) e = let p = both (ltb r.value (256 ^ r.wide)) (fits rs) e in (ltb-true _ _ p.0, fitting rs p.1)
+every : (rs : List Row) → fits rs ≡ true → Fitting rs
+every [] e = tt
+every (r ∷ rs) e = let p = both (ltb r.value (256 ^ r.wide)) (fits rs) e in (ltb-true _ _ p.0, every rs p.1)
 
--- where nothing is refused there is room, and every number fits
-pub unrefused : (size : ℕ) (rs : List Row) (n : ℕ) (g : Fault) → g ≡ write_fault size rs n → g.number ≡ 0 → (size ≤ n) × Fitting rs
-unfolding fault_if
-unrefused size rs n g q z = pick (ltb n size) (fits rs) refl refl (ap (λ (f : Fault). f.number) (sym q) ∙ z)
-  where
-    pick : (a b : Bool) → ltb n size ≡ a → fits rs ≡ b → (cond a (faulty 14) (cond b no_fault (faulty 12))).number ≡ 0 → (size ≤ n) × Fitting rs
-    pick true b p q e = let z : ◌≡◌ {A = ℕ} 14 0 = e in absurd (omega arith)
-    pick false true p q e = (ltb-false n size p, fitting rs q)
-    pick false false p q e = let z : ◌≡◌ {A = ℕ} 12 0 = e in absurd (omega arith)
+pub fitting : (rs : List Row) → fit_fault (fits rs) ≡ Ok tt → Fitting rs
+unfolding fit_fault
+fitting rs q = every rs (grind (arith, nat_tests))
 
--- a writer that was refused wrote nothing; one that was not wrote what reads back
-pub kept : {f : Fault} {w s : List ℕ} {b : Type 0} {r : Fault} → r ≡ f → (r.number ≡ 0 → ⊥) → Wrote f w s s b r
-kept {f} {w} {s} {b} {r} e z = record { fault = e; bytes = rw (ne_eqb r.number 0 z); reads_back = λ q. absurd (z q) }
+-- and that there is room
+pub room_left : (size n : ℕ) → room_fault size n ≡ Ok tt → size ≤ n
+unfolding room_fault
+room_left size n q = grind (arith, nat_tests)
 
-pub done : {f : Fault} {w s t : List ℕ} {b : Type 0} {r : Fault} → r ≡ f → r.number ≡ 0 → t ≡ w → b → Wrote f w s t b r
-done {f} {w} {s} {t} {b} {r} e z q k = record { fault = e; bytes = rw z q; reads_back = λ _. k }
+-- where the two tests of a table pass, both do
+pub unrefused : (size : ℕ) (rs : List Row) (n : ℕ) → write_fault size rs n ≡ Ok tt → (size ≤ n) × Fitting rs
+unfolding room_fault fit_fault
+unrefused size rs n q = (grind (arith, nat_tests), every rs (grind (arith, nat_tests)))

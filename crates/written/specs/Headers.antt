@@ -6,25 +6,24 @@
 -- WroteHeader h s t r       what `write_file_header` does (`Wrote` of Rows): a header that is written is what `header_of` finds
 -- WroteSection, WroteSegment     the same of the other two, in a class and an order
 -- Assumes nothing.
-use Rattle.std.specs.Prelude.{ℕ, ◌+◌, ◌≡◌, List, [], ◌∷◌, length}
+use Rattle.std.specs.Prelude.{ℕ, ◌≡◌, List, [], ◌∷◌, length, Result, Ok, ⊤}
 use Rattle.std.proofs.lemmas.List.Edits.{sets}
 use Rattle.endian.specs.Place.{size_of, file_header, section_header, program_header}
 use Rattle.endian.specs.declared.Order.{Order}
-use Rattle.endian.specs.declared.Order.TheVariants.{Little, Big}
 use Rattle.endian.specs.declared.Class.{Class}
 use Rattle.endian.specs.declared.Class.TheVariants.{Elf32, Elf64}
-use Rattle.endian.specs.declared.Fault.{Fault}
+use Rattle.endian.specs.declared.fault.Fault.{Fault}
+use Rattle.endian.specs.Said.{class_byte, order_byte}
 use Rattle.file.specs.declared.FileHeader.{FileHeader}
-use Rattle.file.specs.declared.GotHeader.TheVariants.{Is}
 use Rattle.file.specs.Layout as file
 use Rattle.file.specs.Open.{header_of}
 use Rattle.section.specs.declared.SectionHeader.{SectionHeader}
 use Rattle.section.specs.Layout as section
 use Rattle.segment.specs.declared.ProgramHeader.{ProgramHeader}
 use Rattle.segment.specs.Layout as segment
-use Rattle.written.specs.Rows.{Row, at, row, write_all, write_fault, Wrote}
+use Rattle.written.specs.Rows.{Row, row, write_all, write_fault, Wrote}
 
-abbrev pub header_rows : Class → FileHeader → List Row
+unfoldable pub header_rows : Class → FileHeader → List Row
 header_rows c h =
     row (file.place_of c file.e_type) h.kind
     ∷ row (file.place_of c file.e_machine) h.machine
@@ -41,33 +40,6 @@ header_rows c h =
     ∷ row (file.place_of c file.e_shstrndx) h.shstrndx
     ∷ []
 
--- the first three of them, the next three, of w bytes each, and the last seven, from o on: as the writer has them
-abbrev pub first_rows : ℕ → ℕ → ℕ → List Row
-first_rows k m v = at 16 2 k ∷ at 18 2 m ∷ at 20 4 v ∷ []
-
-abbrev pub three_rows : ℕ → ℕ → ℕ → ℕ → List Row
-three_rows w a b c = at 24 w a ∷ at (24 + w) w b ∷ at (24 + w + w) w c ∷ []
-
-abbrev pub last_rows : ℕ → FileHeader → List Row
-last_rows o h =
-    at o 4 h.flags
-    ∷ at (o + 4) 2 h.ehsize
-    ∷ at (o + 6) 2 h.phentsize
-    ∷ at (o + 8) 2 h.phnum
-    ∷ at (o + 10) 2 h.shentsize
-    ∷ at (o + 12) 2 h.shnum
-    ∷ at (o + 14) 2 h.shstrndx
-    ∷ []
-
--- bytes 4 and 5 of the identification
-abbrev pub class_byte : Class → ℕ
-class_byte Elf32 = 1
-class_byte Elf64 = 2
-
-abbrev pub order_byte : Order → ℕ
-order_byte Little = 1
-order_byte Big = 2
-
 -- the magic number, class, order, version 1, the ABI and its version, and seven zeros
 abbrev pub ident_bytes : Class → FileHeader → List ℕ
 ident_bytes c h =
@@ -76,7 +48,7 @@ ident_bytes c h =
 unfoldable pub header_bytes : Class → FileHeader → List ℕ → List ℕ
 header_bytes c h s = write_all h.order (header_rows c h) (sets s 0 (ident_bytes c h))
 
-abbrev pub section_rows : Class → SectionHeader → List Row
+unfoldable pub section_rows : Class → SectionHeader → List Row
 section_rows c h =
     row (section.place_of c section.sh_name) h.name
     ∷ row (section.place_of c section.sh_type) h.kind
@@ -91,7 +63,7 @@ section_rows c h =
     ∷ []
 
 -- the flags stand second in a 64-bit entry and seventh in a 32-bit one
-abbrev pub segment_rows : Class → ProgramHeader → List Row
+unfoldable pub segment_rows : Class → ProgramHeader → List Row
 segment_rows Elf32 h =
     row (segment.place_of Elf32 segment.p_type) h.kind
     ∷ row (segment.place_of Elf32 segment.p_offset) h.offset
@@ -113,20 +85,20 @@ segment_rows Elf64 h =
     ∷ row (segment.place_of Elf64 segment.p_align) h.align
     ∷ []
 
-abbrev pub WroteHeader : FileHeader → List ℕ → List ℕ → Fault → Type 0
+abbrev pub WroteHeader : FileHeader → List ℕ → List ℕ → Result ⊤ Fault → Type 0
 WroteHeader h s t r =
     Wrote
     (write_fault (size_of file_header h.class) (header_rows h.class h) (length s))
     (header_bytes h.class h s)
     s
     t
-    (header_of t ≡ Is h)
+    (header_of t ≡ Ok h)
     r
 
-abbrev pub WroteSection : Class → Order → SectionHeader → List ℕ → List ℕ → Fault → Type 0
+abbrev pub WroteSection : Class → Order → SectionHeader → List ℕ → List ℕ → Result ⊤ Fault → Type 0
 WroteSection c e h s t r =
     Wrote (write_fault (size_of section_header c) (section_rows c h) (length s)) (write_all e (section_rows c h) s) s t (section.section_at c e t 0 ≡ h) r
 
-abbrev pub WroteSegment : Class → Order → ProgramHeader → List ℕ → List ℕ → Fault → Type 0
+abbrev pub WroteSegment : Class → Order → ProgramHeader → List ℕ → List ℕ → Result ⊤ Fault → Type 0
 WroteSegment c e h s t r =
     Wrote (write_fault (size_of program_header c) (segment_rows c h) (length s)) (write_all e (segment_rows c h) s) s t (segment.segment_at c e t 0 ≡ h) r

@@ -1,23 +1,15 @@
--- `hash::sysv_hash` meets its contract. The invariant: the bytes left, from the hash so far, make the hash of all bytes.
+-- `hash::sysv_hash` meets its contract: so far as the fold has come, it is the hash of the bytes.
 -- Assumes nothing.
-use native.Mathlib.Numerals.{add-one}
-use mathlib.Core.Path.{refl}
-use lib.ListN.{drop_of_length-le}
-use lib.Seq.{drop-cons}
-use Rattle.hash.specs.Sysv.{sysv_from, sysv_hash}
+use Rattle.std.proofs.Common.{rules, ◌≡◌, ◌%◌, refl, subst}
+use Rattle.std.proofs.lemmas.Fn.{fold_over, slice_gives, fronts}
+use Rattle.hash.specs.Sysv.{sysv_step, sysv_from, sysv_hash}
+use Rattle.hash.proofs.Laws.{hash_more, hash_known}
 use Rattle.hash.proofs.sysv_hash.Goals as goal
-
-pub loop-i-init : goal.loop-i-init
-unfolding sysv_hash
-loop-i-init c = refl
-
-pub loop-i-preserved : goal.loop-i-preserved
-unfolding sysv_from
-loop-i-preserved c =
-    let i = c.loop-i.i in
-    let n = c.args.name.now in
-    rw (c.hash_step-h.ensures, add-one i) (rw (drop-cons n i 0 c.loop-i-test.true) at c.loop-i.invariant)
 
 pub returns : goal.returns
 unfolding sysv_from
-returns c = rw (drop_of_length-le _ c.loop-i-test.false) at c.loop-i.invariant
+returns c =
+    subst (λ l. c.fold.result % 268435456 ≡ sysv_hash l) c.iter.ensures.rest
+    (hash_known _ _ (fold_over fronts (λ y. y.now) _ (λ ys h. h ≡ sysv_from 0 ys) _
+    (λ ys a x b f' h k. let e : b ≡ sysv_step a x.now = search rules in (cc (hash_more 0 ys x.now), search rules))
+    _ _ _ _ (slice_gives c.iter.result) refl c.fold.ensures.ran))

@@ -1,9 +1,10 @@
--- `load_image::carry_out` meets its contract: all records, or nothing. Assumes nothing.
-use borrow.Author.Tests.{eq-eqb, ne_eqb}
+-- `carry_out` meets its contract: records that are not refused lie in the memory and in the file.
+-- Assumes nothing.
+use mathlib.Core.Path.{sym, ◌∙◌}
+use Rattle.load_image.proofs.Laws.{sound}
 use Rattle.load_image.proofs.carry_out.Goals as goal
 
-pub returns-then-d-eq0 : goal.returns-then-d-eq0
-returns-then-d-eq0 c = record { answers = c.refuse-d.ensures; memory = rw (eq-eqb _ _ c.if-d-eq0.true) c.carry_all.ensures }
-
-pub returns-else-d-eq0 : goal.returns-else-d-eq0
-returns-else-d-eq0 c = record { answers = c.refuse-d.ensures; memory = rw (ne_eqb _ _ c.if-d-eq0.false) }
+pub carry_all-requires : goal.carry_all-requires
+carry_all-requires c =
+    let s = sound _ _ _ _ _ (sym c.test.ensures ∙ c.in_ok-test.was) in
+    record { room = s.holds; fitted = λ k lt. rw s.memory_is (s.fitted k lt) }

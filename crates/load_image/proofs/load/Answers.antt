@@ -1,30 +1,38 @@
--- `load_image::load` meets its contract: the end theorem, from what `plan` and `carry_out` ensure. Assumes nothing.
-use mathlib.Core.Path.{refl}
+-- `load` meets its contract: the end theorem, from what `plan` and `carry_out` ensure.
+-- Assumes nothing.
+use mathlib.Core.Path.{refl, sym, ◌∙◌}
 use borrow.Author.Tests.{eq-eqb, ne_eqb}
+use Rattle.std.proofs.lemmas.Result.{err_from_is_err_and}
 use Rattle.load_plan.specs.Plan.{window_of}
 use Rattle.load_image.specs.Image.{load_answer}
-use Rattle.load_image.proofs.Finish.{done}
+use Rattle.load_image.proofs.Finish.{done, not_refused}
 use Rattle.load_image.proofs.load.Goals as goal
 
-pub returns-in-Planned : goal.returns-in-Planned
+pub returns-then-m-len : goal.returns-then-m-len
 unfolding load_answer
-returns-in-Planned c =
-    let a = c.args in
-    let w = window_of a.start a.len in
-    let p = rw c.in-Planned.is at c.plan-a.ensures in
-    let e = c.if-m-len.true in
-    record {
-      answers = rw (eq-eqb _ _ e) p.answers;
-      table_is = p.table;
-      memory_is = done a.f.now w a.table.now _ _ p a.m.now _ c.carry_out.result e c.carry_out.ensures;
-    }
+returns-then-m-len c = record { answers = rw (ne_eqb _ _ c.if-m-len.true); table_is = refl; memory_is = refl }
 
-pub returns-in-Refused : goal.returns-in-Refused
+pub returns-in_err-n : goal.returns-in_err-n
 unfolding load_answer
-returns-in-Refused c =
-    let p = rw c.in-Refused.is at c.plan-a.ensures in
-    record { answers = rw (eq-eqb _ _ c.if-m-len.true) p.answers; table_is = p.table; memory_is = refl }
+returns-in_err-n c =
+    let e = err_from_is_err_and c.from_residual.result c.from_residual.ensures.1 in
+    let p = rw c.in_err-n.was at c.plan.ensures in
+    rw (e.1, e.2) (record { answers = rw (eq-eqb _ _ c.if-m-len.false) p.answers; table_is = p.table; memory_is = refl })
+
+-- a plan that was made is not refused
+pub returns-in_err-carry_out : goal.returns-in_err-carry_out
+returns-in_err-carry_out c =
+    let a = c.args in
+    let p = rw c.in_ok-n.was at c.plan.ensures in
+    absurd (not_refused a.f.now (window_of a.start a.len) a.table.now _ _ p a.m.now c.if-m-len.false _ (sym c.in_err-carry_out.was ∙ c.carry_out.ensures.answers))
 
 pub returns : goal.returns
 unfolding load_answer
-returns c = record { answers = rw (ne_eqb _ _ c.if-m-len.false); table_is = refl; memory_is = refl }
+returns c =
+    let a = c.args in
+    let p = rw c.in_ok-n.was at c.plan.ensures in
+    record {
+      answers = rw (eq-eqb _ _ c.if-m-len.false) p.answers;
+      table_is = p.table;
+      memory_is = done a.f.now (window_of a.start a.len) a.table.now _ _ p a.m.now _ c.if-m-len.false (rw c.in_ok-carry_out.was at c.carry_out.ensures);
+    }

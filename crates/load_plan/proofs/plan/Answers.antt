@@ -1,30 +1,25 @@
--- `load_plan::plan` meets its contract: a file that can't be begun, one that is refused, one that is planned. Assumes nothing.
+-- `plan` meets its contract: a file that can't be begun, one that is refused, one that is planned.
+-- Assumes nothing.
 use mathlib.Core.Path.{sym, ◌∙◌}
-use lib.ListN.{length}
-use Rattle.load_plan.specs.Plan.{window_of}
-use Rattle.load_plan.proofs.Opening.{held}
+use Rattle.std.proofs.lemmas.Result.{err_from_is_err_and}
 use Rattle.load_plan.proofs.Accept.{accepted, made_closed, made_planned, made_refused}
 use Rattle.load_plan.proofs.plan.Goals as goal
 
-pub refuse-d-requires : goal.refuse-d-requires
-refuse-d-requires c = held _ _ (sym c.begin-b.ensures ∙ c.in-Is.is)
+pub returns-in_err-begun : goal.returns-in_err-begun
+returns-in_err-begun c =
+    let p = err_from_is_err_and c.from_residual.result c.from_residual.ensures.1 in
+    rw (p.1, p.2) (made_closed _ _ _ _ (c.in_err-begun.ensures))
 
-pub fill-n-requires : goal.fill-n-requires
-fill-n-requires c =
-    let a = c.args in
-    accepted a.f.now _ (window_of a.start a.len) (length a.table.now) (held _ _ (sym c.begin-b.ensures ∙ c.in-Is.is)) (sym c.refuse-d.ensures ∙ c.if-d-eq0.true)
+pub returns-in_err-test : goal.returns-in_err-test
+returns-in_err-test c =
+    let p = err_from_is_err_and c.from_residual-in_err-test.result c.from_residual-in_err-test.ensures.1 in
+    let q = c.in_ok-begun.ensures in
+    rw (p.1, p.2) (made_refused _ _ _ _ q.1 _ (rw q.0 at (sym c.test.ensures ∙ c.in_err-test.was)))
 
-pub returns-then-d-eq0 : goal.returns-then-d-eq0
-returns-then-d-eq0 c =
-    let a = c.args in
-    made_planned a.f.now (window_of a.start a.len) _ a.table.now (sym c.in-Is.is ∙ c.begin-b.ensures) c.refuse-d.result c.refuse-d.ensures c.if-d-eq0.true _ _ c.fill-n.ensures
+pub fill-requires : goal.fill-requires
+fill-requires c = accepted _ _ _ _ c.in_ok-begun.begun.held (sym c.test.ensures ∙ c.in_ok-test.was)
 
-pub returns-in-Refused : goal.returns-in-Refused
-returns-in-Refused c =
-    let a = c.args in
-    made_closed a.f.now (window_of a.start a.len) a.table.now _ (sym c.in-Refused.is ∙ c.begin-b.ensures)
-
-pub returns-else-d-eq0 : goal.returns-else-d-eq0
-returns-else-d-eq0 c =
-    let a = c.args in
-    made_refused a.f.now (window_of a.start a.len) _ a.table.now (sym c.in-Is.is ∙ c.begin-b.ensures) c.refuse-d.result c.refuse-d.ensures c.if-d-eq0.false
+pub returns : goal.returns
+returns c =
+    let q = c.in_ok-begun.ensures in
+    made_planned _ _ _ _ q.1 (rw q.0 at (sym c.test.ensures ∙ c.in_ok-test.was)) _ _ (rw q.0 at c.fill.ensures)

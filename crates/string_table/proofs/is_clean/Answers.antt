@@ -1,14 +1,16 @@
--- `string_table::is_clean` meets its contract. The invariant: the flag, and the bytes left, say of the name what the whole name says.
+-- `string_table::is_clean` meets its contract: so far as the fold has come, it says whether the bytes are clean.
 -- Assumes nothing.
-use mathlib.Core.Path.{refl, ◌∙◌}
-use Rattle.string_table.proofs.Laws.{clean_turn, clean_over}
+use Rattle.std.proofs.Common.{rules, tests, ◌≡◌, ◌&&◌, not, refl, subst}
+use lib.Dec.{eqb}
+use Rattle.std.proofs.lemmas.Fn.{fold_over, slice_gives, fronts}
+use Rattle.string_table.specs.Text.{is_clean}
+use Rattle.string_table.proofs.Laws.{clean_more}
 use Rattle.string_table.proofs.is_clean.Goals as goal
 
-pub loop-i-init : goal.loop-i-init
-loop-i-init c = refl
-
-pub loop-i-preserved : goal.loop-i-preserved
-loop-i-preserved c = clean_turn c.args.name.now c.loop-i.clean _ c.loop-i-test.true ∙ c.loop-i.invariant
-
 pub returns : goal.returns
-returns c = clean_over c.args.name.now _ _ c.loop-i-test.false ∙ c.loop-i.invariant
+unfolding is_clean
+returns c =
+    subst (λ l. c.fold.result ≡ is_clean l) c.iter.ensures.rest
+    (fold_over fronts (λ y. y.now) _ (λ ys a. a ≡ is_clean ys) _
+    (λ ys a x b f' h k. let e : b ≡ (a && not (eqb x.now 0)) = search (rules, tests) in (cc (clean_more ys x.now), search rules))
+    _ _ _ _ (slice_gives c.iter.result) refl c.fold.ensures.ran)

@@ -1,23 +1,15 @@
--- `string_table::is_utf8` meets its contract. The invariant: what is awaited says of the bytes left what the table says of all of them.
+-- `string_table::is_utf8` meets its contract: so far as the fold has come, it says what must follow the bytes that have come.
 -- Assumes nothing.
-use native.Mathlib.Numerals.{add-one}
-use Prim.Native.Nat.{◌-◌}
-use mathlib.Core.Path.{◌∙◌}
-use lib.ListN.{drop, drop_of_length-le}
-use lib.Seq.{drop-cons}
-use Rattle.string_table.specs.Utf8.{awaited, well_formed}
-use Rattle.string_table.proofs.Sequences.{step, follows_end}
+use Rattle.std.proofs.Common.{rules, ◌≡◌, subst}
+use lib.Dec.{eqb}
+use Rattle.std.proofs.lemmas.Fn.{fold_over, slice_gives, fronts}
+use Rattle.string_table.specs.Utf8.{awaited, step_of, well_formed}
+use Rattle.string_table.proofs.Sequences.{Passed, passed_more, passed_all}
 use Rattle.string_table.proofs.is_utf8.Goals as goal
 
-pub loop-i-init : goal.loop-i-init
-unfolding well_formed
-loop-i-init c = rw c.awaits-a.ensures
-
-pub loop-i-preserved : goal.loop-i-preserved
-loop-i-preserved c =
-    let i = c.loop-i.i in
-    let s = c.args.s.now in
-    rw (c.next-a.ensures, add-one i, ← (step (awaited c.loop-i.a) _ (drop (Prim.Native.Nat.suc i) s)), ← (drop-cons s i 0 c.loop-i-test.true)) c.loop-i.invariant
-
 pub returns : goal.returns
-returns c = follows_end _ ∙ (rw (drop_of_length-le _ c.loop-i-test.false) at c.loop-i.invariant)
+returns c =
+    subst (λ l. eqb c.fold.result.more 0 ≡ well_formed l) c.iter.ensures.rest
+    (passed_all _ _ (fold_over fronts (λ y. y.now) _ (λ ys a. Passed ys (awaited a)) _
+    (λ ys a x b f' h k. let e : awaited b ≡ step_of (awaited a) x.now = search rules in (passed_more ys x.now (awaited a) (awaited b) h e, search rules))
+    _ _ _ _ (slice_gives c.iter.result) (λ rest. rw c.awaits.ensures) c.fold.ensures.ran))

@@ -1,6 +1,0 @@
--- `endian::ordered32` meets its contract: the order decides.
--- Assumes nothing.
-use Rattle.endian.proofs.ordered32.Goals as goal
-
-pub returns-in-Big : goal.returns-in-Big
-returns-in-Big c = rw c.in-Big.is c.swap32.ensures

@@ -1,6 +1,0 @@
--- `load_rules::first_page` meets its contract: the same quotient. Assumes nothing.
-use mathlib.Core.Path.{refl}
-use Rattle.load_rules.proofs.first_page.Goals as goal
-
-pub returns : goal.returns
-returns c = refl

@@ -1,5 +1,0 @@
--- `load_rules::is_unfit` meets its contract: the test is the rule's, operation by operation. Assumes nothing.
-use Rattle.load_rules.proofs.is_unfit.Goals as goal
-
-pub returns : goal.returns
-returns c = cc

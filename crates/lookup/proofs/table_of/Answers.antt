@@ -1,9 +1,0 @@
--- `lookup::table_of` meets its contract.
--- Assumes nothing.
-use Rattle.lookup.proofs.table_of.Goals as goal
-
-pub returns-in-Refused : goal.returns-in-Refused
-returns-in-Refused c = rw c.in-Refused.is
-
-pub returns-in-Is : goal.returns-in-Is
-returns-in-Is c = rw c.in-Is.is

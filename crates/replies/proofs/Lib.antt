@@ -1,0 +1,3 @@
+-- The crate's laws, a file each.
+-- Assumes nothing.
+pub mod Openings

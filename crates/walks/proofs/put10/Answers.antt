@@ -1,7 +1,0 @@
--- `walks::put10` meets its contract: the row is stored value by value. Assumes nothing.
-use native.Mathlib.Omega.{arith}
-use Rattle.walks.proofs.Row.{put_row}
-use Rattle.walks.proofs.put10.Goals as goal
-
-pub returns : goal.returns
-returns c = put_row 9 c.args.row c.args.out.now c.args.at (omega arith) c.requires

@@ -1,7 +1,0 @@
--- `walks::put3` meets its contract: the row is stored value by value. Assumes nothing.
-use native.Mathlib.Omega.{arith}
-use Rattle.walks.proofs.Row.{put_row}
-use Rattle.walks.proofs.put3.Goals as goal
-
-pub returns : goal.returns
-returns c = put_row 2 c.args.row c.args.out.now c.args.at (omega arith) c.requires
