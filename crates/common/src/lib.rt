@@ -58,14 +58,7 @@ fn collected(file: &ElfBytes, c: Common, h: SectionHeader) -> Result<Common, Fau
             ..c
         }),
         6 => Ok(Common {
-            dynamic: Some(contents::dynamic_in(
-                file.elf.class,
-                file.bytes,
-                h.kind,
-                asked.offset,
-                asked.size,
-                asked.entsize,
-            )?),
+            dynamic: Some(contents::dynamic_in(file, h.kind, asked)?),
             ..c
         }),
         5 => Ok(Common {

@@ -1,6 +1,7 @@
 // What a section or a segment holds: its header by number, its bytes, and its bytes as strings, relocations, symbols or dynamic entries.
 // A section's numbers (type, offset, size, ..) come from the caller, and nothing is believed of them.
 // The flag for compressed data is ignored. The `.._in` functions take an opened file, whose tables lie in it.
+// Types are the ABI's numbers and no enum: a file may have any number there, and it is told as it stands.
 #![tactic(auto)]
 
 ghost use Rattle.std.specs.Prelude.{◌≡◌, length};
@@ -72,6 +73,7 @@ pub fn extent_in(file: &ElfBytes, i: usize) -> Result<Extent, Fault>
     header_in::<Extent>(file, file.elf.sections, i)
 }
 
+// The question of a whole file: a name, and a promise, for each of the two tables.
 #[tactic(auto, unfolding(crate::specs::Contents::section_of))]
 pub fn section_at(d: &[u8], i: usize) -> Result<SectionHeader, Fault>
     ensures { result ≡ section_of d.now i }
@@ -146,23 +148,16 @@ pub fn segment_data(d: &[u8], offset: usize, filesz: usize) -> Result<Range, Fau
 
 // As dynamic entries: the type, then the entry size, then the bytes.
 #[tactic(auto, unfolding(crate::specs::Contents::dynamic_in))]
-pub fn dynamic_in(
-    class: Class,
-    d: &[u8],
-    kind: u32,
-    offset: usize,
-    size: usize,
-    entsize: usize,
-) -> Result<Range, Fault>
-    ensures { result ≡ dynamic_in class (length d.now) kind offset size entsize }
+pub fn dynamic_in(file: &ElfBytes, kind: u32, asked: Asked) -> Result<Range, Fault>
+    ensures { result ≡ dynamic_in file.now.elf.class (length file.now.bytes.now) kind asked.offset asked.size asked.entsize }
 {
     if kind != 6 {
         return Err(Fault::BadSectionType);
     }
-    if entsize != Dyn::size_of(class) {
+    if asked.entsize != Dyn::size_of(file.elf.class) {
         return Err(Fault::BadEntrySize);
     }
-    section_data(d, kind, offset, size)
+    section_data(file.bytes, kind, asked.offset, asked.size)
 }
 
 #[tactic(auto, unfolding(crate::specs::Contents::dynamic_of))]
@@ -175,8 +170,13 @@ pub fn dynamic_data(
 ) -> Result<Range, Fault>
     ensures { result ≡ dynamic_of d.now kind offset size entsize }
 {
-    let elf = elf_bytes::open(d)?;
-    dynamic_in(elf.class, d, kind, offset, size, entsize)
+    let asked = Asked {
+        offset,
+        size,
+        link: 0, // not asked for
+        entsize,
+    };
+    dynamic_in(&ElfBytes::open(d)?, kind, asked)
 }
 
 // ---- symbols

@@ -1,6 +1,6 @@
 // Opening a file: its class and order, and where its section and program headers stand.
-// Opening walks nothing and keeps nothing but the file's bytes: each question opens the file again, so that no state of a caller is
-// trusted. Sections come before segments, and the first test that fails decides.
+// Opening walks nothing. Each question opens the file again, so that no state of a caller is trusted. Sections come before segments,
+// and the first test that fails decides.
 #![tactic(auto)]
 
 ghost use Rattle.std.specs.Prelude.{◌≡◌, ◌+◌, ◌*◌, ◌≤◌, length, Ok, Err, MatchResult};

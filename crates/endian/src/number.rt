@@ -129,7 +129,8 @@ impl Number for i64 {
     }
 }
 
-// Bytes from `o` on.
+// Bytes from `o` on. `walks::put_row` does the like with u64, and promises another definition: `put` of a row, where this is a
+// store for each byte (`sets`), as numbers are read back.
 fn place(d: &mut [u8], o: usize, bytes: &[u8])
     requires { o + length bytes.now ≤ length d.old }
     ensures { d.new ≡ sets d.old o bytes.now }

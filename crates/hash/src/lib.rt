@@ -1,15 +1,16 @@
 // The SysV hash table: the hash of a name, the table's header, and the lookup of a name.
 // A lookup takes at most as many turns as the table has chain entries. A turn tests one range for the symbol and one for the chain
 // entry, and reads the symbol's name field only. Where the string table's last zero byte stands is found once, so no turn searches
-// for the end of a string, and so is whether the name holds a zero byte, so no turn looks for one. That a string is not the name is
-// noted if the name is long, so a chain that returns to itself compares no more than one that does not.
+// for the end of a string, and so is whether the name holds a zero byte, which its type then says, so no turn looks for one. That a
+// string is not the name is noted if the name is long, so a chain that returns to itself compares no more than one that does not.
 #![tactic(auto)]
 
-ghost use Rattle.std.specs.Prelude.{◌≡◌, ℕ, ◌+◌, ◌*◌, ◌≤◌, true, length, Result};
+ghost use Rattle.std.specs.Prelude.{◌≡◌, ℕ, ◌+◌, ◌*◌, ◌≤◌, length, Result};
 ghost use Rattle.endian.specs.declared.fault.Fault.{Fault};
 ghost use Rattle.endian.specs.Range.{answer};
 ghost use Rattle.endian.specs.Place.{size_of, symbol};
 ghost use Rattle.parse.specs.Entry.{entry_fault, count_of};
+ghost use Rattle.string_table.specs.Names.{bytes_of};
 ghost use Rattle.string_table.specs.Noted.{Notes};
 ghost use Rattle.std.proofs.Props.{props};
 ghost use Rattle.hash.specs.declared.Turn.{Turn};
@@ -19,7 +20,7 @@ ghost use Rattle.hash.specs.Find.{symbol_count, next_of, turn_of, place_of, walk
 
 use endian::{Class, Fault, Number, Order};
 use parse::ParseAt;
-use string_table::{Name, Strings};
+use string_table::{CleanName, Strings, UncleanName};
 use symbol::Symbol;
 
 // The two counts at the start of a table.
@@ -81,7 +82,7 @@ fn symbol_count(class: Class, len: usize) -> usize
     }
 }
 
-// A lookup of one name: the table with its header, the symbols and how many whole ones there are, the strings, and the name.
+// What a lookup searches: the table with its header, the symbols and how many whole ones there are, and the strings.
 #[derive(Clone, Copy)]
 struct Search<'a> {
     class: Class,
@@ -91,7 +92,6 @@ struct Search<'a> {
     symbols: &'a [u8],
     whole: usize,
     strings: Strings<'a>,
-    name: Name<'a>,
     ghost buckets_read: { head.buckets ≡ bucket_count order table.now },
     ghost chains_read: { head.chains ≡ chain_count order table.now },
     ghost room: { 8 + 4 * head.buckets + 4 * head.chains ≤ length table.now },
@@ -151,53 +151,60 @@ trait Turning {
         ensures kept { at self.new ≡ at self.old };
 }
 
-// Of any name: the symbol, its name, the comparison, the chain entry.
-impl<'a> Turning for Search<'a> {
-    ghost at = { λ s i. turn_of s.class s.order s.table.now s.symbols.now s.strings.bytes.now s.name.bytes.now i };
+// The lookup of a name.
+#[derive(Clone, Copy)]
+struct Plain<'a, 'b> {
+    search: Search<'a>,
+    name: Result<CleanName<'b>, UncleanName<'b>>,
+}
+
+// The symbol, its name, the comparison, the chain entry.
+impl<'a, 'b> Turning for Plain<'a, 'b> {
+    ghost at = { λ s i. turn_of s.search.class s.search.order s.search.table.now s.search.symbols.now s.search.strings.bytes.now (bytes_of s.name) i };
 
     #[tactic(auto, unfolding(crate::specs::Find::turn_of, crate::specs::Find::place_of))]
     fn turn(&mut self, i: usize) -> Result<Turn, Fault> {
-        let o = self.name_at(i)?;
-        if self.strings.compare(o, &self.name)? {
+        let search = &self.search;
+        let o = search.name_at(i)?;
+        if search.strings.compare(o, &self.name)? {
             return Ok(Turn::Same);
         }
-        self.next(i)
+        search.next(i)
     }
 }
 
-// The same of a clean name, with notes.
+// The same of a name that holds no zero byte, with notes.
 #[derive(Drop)]
-struct Noting<'a> {
+struct Noting<'a, 'b> {
     search: Search<'a>,
+    name: CleanName<'b>,
     marks: [u8; 1024],
-    ghost clean: { search.name.clean ≡ true },
-    ghost noted: { Notes search.strings.bytes.now search.name.bytes.now marks } by { Prim.hlevel props },
+    ghost noted: { Notes search.strings.bytes.now name.bytes.now marks } by { Prim.hlevel props },
 }
 
-impl<'a> Noting<'a> {
-    fn new(search: Search<'a>) -> Noting<'a>
-        requires { search.name.clean ≡ true }
-        ensures { result.search ≡ search.entry }
+impl<'a, 'b> Noting<'a, 'b> {
+    fn new(search: Search<'a>, name: CleanName<'b>) -> Noting<'a, 'b>
+        ensures searched { result.search ≡ search.entry }
+        ensures named { result.name ≡ name.entry }
     {
         Noting {
             search,
+            name,
             // fixed, since there is no heap
             marks: [0; 1024],
         }
     }
 }
 
-impl<'a> Turning for Noting<'a> {
-    ghost at = { λ s. ⟦<Search<'a> as Turning>⟧.at s.search };
+impl<'a, 'b> Turning for Noting<'a, 'b> {
+    ghost at = { λ s i. turn_of s.search.class s.search.order s.search.table.now s.search.symbols.now s.search.strings.bytes.now s.name.bytes.now i };
 
     #[tactic(auto, unfolding(crate::specs::Find::turn_of, crate::specs::Find::place_of), using(string_table::proofs::Notes::noted_true))]
     fn turn(&mut self, i: usize) -> Result<Turn, Fault> {
         let search = &self.search;
         let o = search.name_at(i)?;
         search.strings.fault(o)?;
-        let same = search
-            .strings
-            .same_noted(o, search.name.bytes, &mut self.marks);
+        let same = search.strings.same_noted(o, &self.name, &mut self.marks);
         if same {
             return Ok(Turn::Same);
         }
@@ -251,10 +258,12 @@ pub fn find(
         symbols: syms,
         whole: symbol_count(class, syms.len()),
         strings: Strings::new(strs),
-        name: Name::new(name),
     };
-    if search.name.clean & string_table::is_long(name) {
-        return walk(Noting::new(search), head.chains, start);
+    match CleanName::new(name) {
+        Ok(clean) if string_table::is_long(name) => {
+            let noting = Noting::new(search, clean);
+            walk(noting, head.chains, start)
+        }
+        name => walk(Plain { search, name }, head.chains, start),
     }
-    walk(search, head.chains, start)
 }

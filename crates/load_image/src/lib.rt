@@ -6,7 +6,6 @@ ghost use Rattle.std.specs.Prelude.{◌≡◌, ℕ, Bool, ◌*◌, ◌<◌, ◌�
 ghost use Rattle.records.specs.Record.{record_at};
 ghost use Rattle.records.specs.declared.Record.{Record};
 ghost use Rattle.load_rules.specs.Rules.{any_below};
-ghost use Rattle.load_plan.specs.Plan.{window_of};
 ghost use Rattle.load_image.specs.Carry.{astray, beyond, passes, verdict_of, Fitted, carried, carried_below, CarriedOut};
 ghost use Rattle.load_image.specs.Image.{Outcome};
 ghost use Rattle.load_image.specs.Pieces.{Neat};
@@ -51,7 +50,7 @@ fn any<P: Fn(Record) -> bool>(t: &[u8], n: usize, test: P) -> bool
 fn test(w: Window, flen: u64, t: &[u8], n: usize, mlen: u64) -> Result<(), Refusal>
     ensures { result ≡ verdict_of w flen t.now n mlen }
 {
-    if t.len() / 48 < n {
+    if t.len() / Record::SIZE < n {
         return Err(Refusal::ShortTable);
     }
     if mlen != w.len {
@@ -134,36 +133,26 @@ impl<'a> Source<'a> {
 // Carries out n records of a table (the number comes from C beside the table), or changes nothing and says why: ShortTable where
 // the table has not so many, Outside where the memory is not as long as the window or a record leaves it, Unfit where a record's
 // bytes aren't in the file.
-pub fn carry_out(
-    f: &[u8],
-    start: u64,
-    len: u64,
-    t: &[u8],
-    n: usize,
-    m: &mut [u8],
-) -> Result<(), Refusal>
-    ensures { CarriedOut f.now (window_of start len) t.now n m.old m.new result }
+pub fn carry_out(f: &[u8], w: Window, t: &[u8], n: usize, m: &mut [u8]) -> Result<(), Refusal>
+    ensures { CarriedOut f.now w t.now n m.old m.new result }
 {
-    let w = Window { start, len };
     test(w, f.len() as u64, t, n, m.len() as u64)?;
-    Source { start, file: f }.carry_all(t, n, m);
+    Source {
+        start: w.start,
+        file: f,
+    }
+    .carry_all(t, n, m);
     Ok(())
 }
 
 // Plans a file and carries the plan out: the records in the table and the file in the memory, or both untouched.
-pub fn load(
-    f: &[u8],
-    start: u64,
-    len: u64,
-    table: &mut [u8],
-    m: &mut [u8],
-) -> Result<usize, Refusal>
-    ensures { Outcome f.now (window_of start len) table.old table.new m.old m.new result }
+pub fn load(f: &[u8], w: Window, table: &mut [u8], m: &mut [u8]) -> Result<usize, Refusal>
+    ensures { Outcome f.now w table.old table.new m.old m.new result }
 {
-    if m.len() as u64 != len {
+    if m.len() as u64 != w.len {
         return Err(Refusal::Outside);
     }
-    let n = load_plan::plan(f, start, len, table)?;
-    carry_out(f, start, len, table, n, m)?;
+    let n = load_plan::plan(f, w, table)?;
+    carry_out(f, w, table, n, m)?;
     Ok(n)
 }

@@ -9,19 +9,20 @@ ghost use Rattle.std.specs.Prelude.{◌≡◌, Bool, true, false, ◌+◌, ◌*�
 ghost use Rattle.load_rules.specs.Rules.{any_below, outside, good_window, low};
 ghost use Rattle.load_rules.specs.declared.Window.{Window};
 ghost use Rattle.segment.specs.declared.ProgramHeader.{ProgramHeader};
-ghost use Rattle.load_plan.specs.Plan.{begun_of, seg_at, some, clash_at, plan_in, verdict_of, window_of, Made};
+ghost use Rattle.load_plan.specs.Plan.{begun_of, seg_at, some, clash_at, plan_in, verdict_of, Made};
 ghost use Rattle.load_plan.specs.Facts.{Held, Accepted, Filled, count_below};
 
 use endian::{Class, Order};
 use load_rules::{View, Window};
 use parse::ParseAt;
+use records::Record;
 pub use refusal::Refusal;
 use segment::ProgramHeader;
 
 // The longest file: 1 GiB.
 const MAX_FILE: usize = 1 << 30;
 
-// What the plan asks of an opened file: its type and entry point, and where its program headers stand.
+// What the plan asks of an opened file: its type and entry point, and where its program headers stand, which an `Elf` may not have.
 #[derive(Clone, Copy, Debug, PartialEq, Eq)]
 pub struct Job {
     pub class: Class,
@@ -102,7 +103,7 @@ impl<'a> Begun<'a> {
         false
     }
 
-    // The number of segments that are loaded.
+    // The number of segments that are loaded. `(0..n).filter(..).count()` would need clauses at its closure, as `any` would.
     #[tactic(auto, unfolding(crate::specs::Facts::count_below), using(crate::proofs::Order::count_real, crate::proofs::Order::count_skip))]
     fn count(&self) -> usize
         ensures { result ≡ count_below (seg_at self.now.file.now self.now.job) self.now.job.count }
@@ -121,7 +122,7 @@ impl<'a> Begun<'a> {
     fn is_short(&self, room: usize) -> bool
         ensures { (w : Window) → result ≡ ltb room (48 * length (plan_in self.now.file.now w self.now.job)) }
     {
-        room / 48 < self.count()
+        room / Record::SIZE < self.count()
     }
 
     // Does a segment clash with one before it? In one pass: its pages start before the end of those before it.
@@ -182,7 +183,7 @@ impl<'a> Begun<'a> {
         Ok(())
     }
 
-    // Writes the records of an accepted file, and returns how many they are.
+    // Writes the records of an accepted file into the table that C lends, and returns how many they are.
     fn fill(&self, w: Window, table: &mut [u8]) -> usize
         requires { Accepted self.now.file.now self.now.job w (length table.old) }
         ensures { Filled (plan_in self.now.file.now w self.now.job) table.old table.new result }
@@ -192,7 +193,7 @@ impl<'a> Begun<'a> {
         for k in 0..self.job.count {
             let s = self.header(k);
             if load_rules::is_real(s) {
-                view.record_of(s).put(table, 48 * n);
+                view.record_of(s).put(table, Record::SIZE * n);
                 n += 1;
             }
         }
@@ -201,10 +202,9 @@ impl<'a> Begun<'a> {
 }
 
 // The plan of a file: its records in the table, or the refusal, and the table untouched.
-pub fn plan(file: &[u8], start: u64, len: u64, table: &mut [u8]) -> Result<usize, Refusal>
-    ensures { Made file.now (window_of start len) table.old table.new result }
+pub fn plan(file: &[u8], w: Window, table: &mut [u8]) -> Result<usize, Refusal>
+    ensures { Made file.now w table.old table.new result }
 {
-    let w = Window { start, len };
     let begun = Begun::open(file)?;
     begun.test(w, table.len())?;
     Ok(begun.fill(w, table))

@@ -2,7 +2,7 @@
 // Assumes nothing.
 
 ghost use Rattle.std.specs.Prelude.{◌≡◌};
-ghost use Rattle.load_plan.specs.Refusal.{number_of, reader_of};
+ghost use Rattle.load_plan.specs.Refusal.{number_of, fault_of};
 ghost use Rattle.load_plan.specs.declared.refusal.Refusal.TheVariants.{Unreadable};
 
 use endian::Fault;
@@ -26,13 +26,13 @@ pub enum Refusal {
 }
 
 impl Refusal {
-    // The number of what the reader says of a file that can't be opened, else 0.
-    pub fn reader(self) -> u32
-        ensures { result ≡ reader_of self }
+    // What the reader says of a file that can't be opened.
+    pub fn reader(self) -> Option<Fault>
+        ensures { result ≡ fault_of self }
     {
         match self {
-            Refusal::Unreadable(fault) => u32::from(fault),
-            _ => 0,
+            Refusal::Unreadable(fault) => Some(fault),
+            _ => None,
         }
     }
 }

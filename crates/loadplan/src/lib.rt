@@ -26,6 +26,7 @@ use endian::Fault;
 use file::Ident;
 use hash::Head;
 use load_plan::Refusal;
+use load_rules::Window;
 use parse::ParseAt;
 use relocation::{Rel, Rela};
 use replies::Opening;
@@ -512,20 +513,22 @@ pub extern "C" fn loadplan_hash_find(
 
 // ---- the load plan
 
-fn told(answer: Result<usize, Refusal>) -> Planned
-    ensures { result ≡ planned_of answer }
-{
-    match answer {
-        Ok(n) => Planned {
-            refusal: 0,
-            reader: 0,
-            records: n as u64,
-        },
-        Err(refusal) => Planned {
-            refusal: u32::from(refusal),
-            reader: refusal.reader(),
-            records: 0,
-        },
+impl From<Result<usize, Refusal>> for Planned {
+    ghost from_gives = { λ a p. p ≡ planned_of a };
+
+    fn from(answer: Result<usize, Refusal>) -> Planned {
+        match answer {
+            Ok(n) => Planned {
+                refusal: 0,
+                reader: 0,
+                records: n as u64,
+            },
+            Err(refusal) => Planned {
+                refusal: u32::from(refusal),
+                reader: refusal.reader().map_or(0, u32::from),
+                records: 0,
+            },
+        }
     }
 }
 
@@ -538,7 +541,11 @@ pub extern "C" fn loadplan_plan(
 ) -> Planned
     ensures { PlanTold file.now (window_of window_start window_length) table.old table.new result }
 {
-    told(load_plan::plan(file, window_start, window_length, table))
+    let w = Window {
+        start: window_start,
+        len: window_length,
+    };
+    Planned::from(load_plan::plan(file, w, table))
 }
 
 #[unsafe(no_mangle)]
@@ -552,14 +559,11 @@ pub extern "C" fn loadplan_carry_out(
 ) -> u32
     ensures { CarryTold file.now (window_of window_start window_length) table.now records memory.old memory.new result }
 {
-    match load_image::carry_out(
-        file,
-        window_start,
-        window_length,
-        table,
-        records as usize,
-        memory,
-    ) {
+    let w = Window {
+        start: window_start,
+        len: window_length,
+    };
+    match load_image::carry_out(file, w, table, records as usize, memory) {
         Ok(()) => 0,
         Err(refusal) => u32::from(refusal),
     }
@@ -575,5 +579,9 @@ pub extern "C" fn loadplan_load(
 ) -> Planned
     ensures { LoadTold file.now (window_of window_start window_length) table.old table.new memory.old memory.new result }
 {
-    told(load_image::load(file, window_start, window_length, table, memory))
+    let w = Window {
+        start: window_start,
+        len: window_length,
+    };
+    Planned::from(load_image::load(file, w, table, memory))
 }

@@ -1,6 +1,6 @@
 -- The laws of `text_named`: what a look at the string table, and at the name itself, tell of it; and the table of names lies in the file.
 -- Assumes nothing.
-use Rattle.std.proofs.Common.{◌≡◌, ℕ, ◌*◌, ◌-◌, ◌≤◌, Bool, true, false, ◌&&◌, cond, List, length, eqb, Option, Some, None, is_ok, Result, Ok, Err, refl, sym, ◌∙◌, arith}
+use Rattle.std.proofs.Common.{◌≡◌, ℕ, ◌*◌, ◌-◌, ◌≤◌, Bool, true, false, ◌&&◌, cond, List, length, eqb, Option, Some, None, is_ok, Result, Ok, Err, refl, arith}
 use mathlib.Core.Bool.{and-false}
 use Rattle.std.specs.Prelude.{⊤}
 use Rattle.endian.specs.Number.{number_at}

@@ -3,7 +3,6 @@
 #![tactic(auto)]
 
 ghost use Rattle.std.specs.Prelude.{◌≡◌, ◌+◌, ◌≤◌, true, length};
-ghost use Rattle.string_table.specs.Text.{is_clean};
 ghost use Rattle.string_table.specs.Noted.{Notes};
 ghost use Rattle.string_table.specs.Utf8.{well_formed};
 ghost use Rattle.elf_bytes.specs.Open.{Tabled};
@@ -15,7 +14,7 @@ use endian::{Fault, Number, Order};
 use parse::{ParseAt, Range};
 use section::SectionHeader;
 use segment::ProgramHeader;
-use string_table::Strings;
+use string_table::{CleanName, Strings};
 
 // ---- names of sections
 
@@ -55,30 +54,28 @@ pub fn name_table(d: &[u8]) -> Result<Option<Range>, Fault>
 
 // ---- a section by its name
 
-// Whether the string at o is the name, which is UTF-8 and holds no zero byte: clauses, since `same_noted` asks the second of a part
-// of a name too, which is no `Name`.
+// Whether the string at o is the name, which is UTF-8. `hash::Noting` keeps the same three with its search; here they are lent by the
+// one loop that has them.
 #[tactic(auto, using(crate::proofs::Names::named_beyond, crate::proofs::Names::named_there, crate::proofs::Names::stays_noted))]
-fn is_named(strings: &Strings, o: usize, name: &[u8], marks: &mut [u8]) -> bool
-    requires utf8 { well_formed name.now ≡ true }
-    requires clean { is_clean name.now ≡ true }
-    requires noted_before { Notes strings.now.bytes.now name.now marks.old }
-    ensures answer { result ≡ text_named strings.now.bytes.now o name.now }
-    ensures noted_after { Notes strings.now.bytes.now name.now marks.new }
+fn is_named(strings: &Strings, o: usize, name: &CleanName, marks: &mut [u8]) -> bool
+    requires utf8 { well_formed name.now.bytes.now ≡ true }
+    requires noted_before { Notes strings.now.bytes.now name.now.bytes.now marks.old }
+    ensures answer { result ≡ text_named strings.now.bytes.now o name.now.bytes.now }
+    ensures noted_after { Notes strings.now.bytes.now name.now.bytes.now marks.new }
 {
     match strings.fault(o) {
         Err(_) => false,
-        Ok(()) if string_table::is_long(name) => strings.same_noted(o, name, marks),
+        Ok(()) if string_table::is_long(name.bytes) => strings.same_noted(o, name, marks),
         Ok(()) => strings.same_at(o, name),
     }
 }
 
 // The first section whose name, at the offset that stands first in its header, is the name.
 #[tactic(auto, using(parse::proofs::Laws::first_here, parse::proofs::Laws::first_later, parse::proofs::Laws::first_none, string_table::proofs::Notes::none_noted), unfolding(crate::specs::Lookup::first_named, crate::specs::Lookup::named))]
-fn search(order: Order, t: &[u8], size: usize, strings: &Strings, name: &[u8]) -> Option<usize>
+fn search(order: Order, t: &[u8], size: usize, strings: &Strings, name: &CleanName) -> Option<usize>
     requires wide { 4 ≤ size }
-    requires utf8 { well_formed name.now ≡ true }
-    requires clean { is_clean name.now ≡ true }
-    ensures { result ≡ first_named order t.now size strings.now.bytes.now name.now }
+    requires utf8 { well_formed name.now.bytes.now ≡ true }
+    ensures { result ≡ first_named order t.now size strings.now.bytes.now name.now.bytes.now }
 {
     // fixed, since there is no heap
     let mut marks = [0u8; 1024];
@@ -98,10 +95,16 @@ fn first_named(order: Order, t: &[u8], size: usize, strs: &[u8], name: &[u8]) ->
     requires { 4 ≤ size }
     ensures { result ≡ first_named order t.now size strs.now name.now }
 {
-    if !string_table::is_clean(name) || !string_table::is_utf8(name) {
-        return None;
+    match CleanName::new(name) {
+        Ok(clean) if string_table::is_utf8(name) => search(
+            order,
+            t,
+            size,
+            &Strings::new(strs),
+            &clean,
+        ),
+        _ => None,
     }
-    search(order, t, size, &Strings::new(strs), name)
 }
 
 #[tactic(auto, using(crate::proofs::Names::names_whole, section::proofs::Filled::wide), unfolding(crate::specs::Lookup::by_name_in))]
@@ -208,14 +211,7 @@ pub fn dynamic_at(file: &ElfBytes, i: usize) -> Result<Range, Fault>
     ensures { result ≡ dynamic_at file.now.bytes.now file.now.elf i }
 {
     let h = contents::section_in(file, i)?;
-    contents::dynamic_in(
-        file.elf.class,
-        file.bytes,
-        h.kind,
-        h.offset as usize,
-        h.size as usize,
-        h.entsize as usize,
-    )
+    contents::dynamic_in(file, h.kind, Asked::from(h.extent()))
 }
 
 // The bytes of segment i that stand in the file.

@@ -1,5 +1,5 @@
 // A run of bytes in memory: whether it fits, filled with zeros, filled from another run.
-// `fill` and `copy_from_slice` are what a compiler makes calls of memset and memcpy.
+// `fill` and `copy_from_slice` are what a compiler makes calls of memset and memmove.
 #![tactic(auto)]
 
 ghost use Rattle.std.specs.Prelude.{◌≡◌, ◌&&◌, ◌+◌, ◌-◌, length, replicate, leb};

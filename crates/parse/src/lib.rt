@@ -12,7 +12,9 @@ ghost use Rattle.parse.specs.First.{first_kind};
 
 use endian::{Class, Fault, Number, Order};
 
-// An entry of fixed size: how many bytes it has in a class, and what the bytes at an offset say.
+// An entry of fixed size: how many bytes it has in a class, and what the bytes at an offset say. Class and order come apart, here
+// and wherever entries are read: `entry_in` calls a reader with both as constants, a size asks for the class alone, a number for
+// the order.
 pub trait ParseAt: Copy {
     ghost size: { Class → ℕ };
 
@@ -121,7 +123,8 @@ pub fn range_at(len: usize, o: usize, n: usize) -> Result<Range, Fault>
     Ok(Range { from: o, to: o + n })
 }
 
-// The first whole entry, of size bytes, with the kind in the four bytes at the place `at`.
+// The first whole entry, of size bytes, with the kind in the four bytes at the place `at`. `position` over the numbers would need
+// clauses at its closure, and be no plainer.
 #[tactic(auto, using(crate::proofs::Laws::first_here, crate::proofs::Laws::first_later, crate::proofs::Laws::first_none), unfolding(crate::specs::First::first_kind))]
 pub fn first_kind(order: Order, t: &[u8], size: usize, at: usize, kind: u32) -> Option<usize>
     requires { at + 4 ≤ size }

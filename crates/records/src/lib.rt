@@ -22,13 +22,16 @@ pub struct Record {
 }
 
 impl Record {
+    // In bytes.
+    pub const SIZE: usize = 48;
+
     // The k-th record of a table.
     #[tactic(auto, unfolding(crate::specs::Record::record_at))]
     pub fn read(t: &[u8], k: usize) -> Record
         requires { 48 * k + 48 ≤ length t.now }
         ensures { result ≡ record_at t.now k }
     {
-        let o = 48 * k;
+        let o = Record::SIZE * k;
         Record {
             page: u64::read(Order::Little, t, o),
             len: u64::read(Order::Little, t, o + 8),

@@ -1,5 +1,6 @@
 // What crosses to C: the values of an answer in a lent array, or the number of a refusal and the array as it was.
-// `tell` is one function for all answers: it is given how an answer's values stand in a row.
+// `tell` is one function for all answers: it is given how an answer's values stand in a row. The rows are functions, since the trait
+// `rows::Row` is of entries, and `From` for an array can't be implemented here.
 #![tactic(auto)]
 
 ghost use Rattle.std.specs.Prelude.{◌≡◌};

@@ -1,10 +1,12 @@
 // The sample of document 01, section 8: its plan, the memory after it is carried out over bytes that are all aa hex, and the
-// refusals of the sample with one byte or the window changed; besides, a window that ends at 2^64, and a 32-bit file. A refusal must leave the table and the memory as they were.
+// refusals of the sample with one byte or the window changed; besides, a window that ends at 2^64, and a 32-bit file. A refusal must
+// leave the table and the memory as they were.
 #![tactic(auto)]
 
 ghost use Rattle.std.specs.Prelude.{◌<◌, ◌≤◌};
 
 use load_plan::Refusal;
+use load_rules::Window;
 use records::Record;
 use std::io::Write;
 use std::{fmt, io};
@@ -106,7 +108,7 @@ fn wrong(f: &[u8; 192], m: &[u8; 8192]) -> usize {
 fn loaded(rt: &impl Print, name: &str, f: &[u8; 192], start: u64) -> io::Result<()> {
     let mut table = [238u8; 100];
     let mut m = [170u8; 8192];
-    let a = load_image::load(f, start, 8192, &mut table, &mut m);
+    let a = load_image::load(f, Window { start, len: 8192 }, &mut table, &mut m);
     let told = Told(a);
     println!(rt; "{name}: {told}")?;
     show(rt, &table, 0)?;
@@ -122,7 +124,11 @@ fn loaded(rt: &impl Print, name: &str, f: &[u8; 192], start: u64) -> io::Result<
 // A file that is refused: the answer, and how many bytes of the table and the memory changed.
 fn refused(rt: &impl Print, name: &str, f: &[u8; 192], len: u64, m: &mut [u8]) -> io::Result<()> {
     let mut table = [238u8; 100];
-    let a = load_image::load(f, 4194304, len, &mut table, m);
+    let w = Window {
+        start: 4194304,
+        len,
+    };
+    let a = load_image::load(f, w, &mut table, m);
     let told = Told(a);
     let in_table = others(&table, 238);
     let in_memory = others(m, 170);
@@ -161,7 +167,11 @@ fn big(rt: &impl Print) -> io::Result<()> {
     let f =
         b"\x7fELF\x01\x02\x01\x00\x00\x00\x00\x00\x00\x00\x00\x00\x00\x02\x00\x14\x00\x00\x00\x01\x10\x00\x00\x54\x00\x00\x00\x34\x00\x00\x00\x00\x00\x00\x00\x00\x00\x34\x00\x20\x00\x01\x00\x28\x00\x00\x00\x00\x00\x00\x00\x01\x00\x00\x00\x00\x10\x00\x00\x00\x10\x00\x00\x00\x00\x00\x00\x58\x00\x00\x00\x58\x00\x00\x00\x05\x00\x00\x10\x00\x4e\x80\x00\x20";
     let mut table = [238u8; 100];
-    let a = load_plan::plan(f, 268435456, 4096, &mut table);
+    let w = Window {
+        start: 268435456,
+        len: 4096,
+    };
+    let a = load_plan::plan(f, w, &mut table);
     let told = Told(a);
     println!(rt; "32-bit, highest byte first: {told}")?;
     show(rt, &table, 0)

@@ -123,7 +123,12 @@ unfolding is_clean
 all_clean [] h = refl
 all_clean (b ∷ s) h = rw (ne_eqb b 0 (h 0 (omega arith)), all_clean s (λ j g. h (suc j) (omega arith)))
 
--- so a string of a table is clean, and a name that is not clean is none
+-- so what stands behind the first k bytes of a clean list is clean
+pub behind_clean : (s : List ℕ) (k : ℕ) → is_clean s ≡ true → is_clean (drop k s) ≡ true
+behind_clean s k h =
+    all_clean _ (λ j g z. let l : length (drop k s) ≡ length s - k = rw (length-drop) in clean_byte s h (k + j) (omega arith) (sym (get_or-drop k s j 0) ∙ z))
+
+-- a string of a table is clean, and a name that is not clean is none
 text_clean : (s : List ℕ) (o : ℕ) → is_clean (text_at s o) ≡ true
 unfolding text_at end_of
 text_clean s o = pick (end_of s o) refl

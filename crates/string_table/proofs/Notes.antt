@@ -17,7 +17,7 @@ use Rattle.marks.proofs.Laws.{fresh, marking_length, marking_told, marking_keeps
 use Rattle.std.specs.Prelude.{Some, Ok}
 use Rattle.string_table.specs.Text.{last_zero, ends_of, text_fault, text_at, same_bytes, same_run, is_clean}
 use Rattle.string_table.specs.Noted.{span_of, front_of, ending, Noted, noting, Notes, noted}
-use Rattle.string_table.proofs.Laws.{ends_inside, stands_below, there_below, there_last, at_outside, Agrees, agrees_same, stands, same_bytes_lem, same_refused, same_known, clean_byte, all_clean, run_byte, last_inside}
+use Rattle.string_table.proofs.Laws.{ends_inside, stands_below, there_below, there_last, at_outside, Agrees, agrees_same, stands, same_bytes_lem, same_refused, same_known, clean_byte, behind_clean, run_byte, last_inside}
 use Rattle.string_table.proofs.Runs.{run_matched, run_other}
 
 clash : (b : Bool) → b ≡ true → b ≡ false → ⊥
@@ -81,7 +81,7 @@ module _ (t : List ℕ) (l : ℕ) (name : List ℕ) (span : ℕ) (last : last_ze
   tail_length = rw (length-drop) (omega arith)
 
   pub tail_clean : is_clean tail ≡ true
-  tail_clean = all_clean _ (λ j g z. let k = tail_length in clean_byte name clean (front_of span name + j) (omega arith) (sym (get_or-drop (front_of span name) name j 0) ∙ z))
+  tail_clean = behind_clean name (front_of span name) clean
 
   ended : (o : ℕ) → ending t name span o ≡ true → Agrees t l (o + front_of span name) tail
   ended o e =
@@ -245,9 +245,6 @@ module _ (t : List ℕ) (o : ℕ) (name : List ℕ) (marks : List ℕ) (there : 
 
     pub tail_there : o + length name < ends_of t → text_fault t (o + front_of span name) ≡ Ok tt
     tail_there h = stands_below t (o + front_of span name) (omega arith)
-
-    pub rest_clean : is_clean (take (length name - front_of span name) (drop (front_of span name) name)) ≡ true
-    rest_clean = rw (rest (front_of span name) name) (tail_clean t last name span (there_last t o there) clean own.some long)
 
     pub unended : o + length name < ends_of t → ending t name span o ≡ false → Compared false marks
     unended h e =

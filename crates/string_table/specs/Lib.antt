@@ -1,5 +1,6 @@
 -- The crate's definitions, a file each.
 -- Assumes nothing.
 pub mod Text
+pub mod Names
 pub mod Noted
 pub mod Utf8

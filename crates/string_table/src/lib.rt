@@ -6,16 +6,20 @@
 // string.
 #![tactic(auto)]
 
-ghost use Rattle.std.specs.Prelude.{◌≡◌, true, ◌+◌, ◌≤◌, length, Ok};
+ghost use Rattle.std.specs.Prelude.{◌≡◌, true, false, ◌+◌, ◌≤◌, length, drop, Ok};
 ghost use Rattle.endian.specs.Range.{answer};
 ghost use Rattle.string_table.specs.Text.{end_of, last_zero, ends_of, text_fault, text_at, text_range, same_bytes, same_run, is_clean};
+ghost use Rattle.string_table.specs.Names.{bytes_of};
 ghost use Rattle.string_table.specs.Noted.{is_long, span_of, Notes, noted};
 ghost use Rattle.string_table.specs.Utf8.{row_of, pending, awaited, step_of, well_formed, utf8_fault};
 
+mod name;
+
 use endian::{Fault, Number, Order};
+pub use name::{CleanName, UncleanName};
 use parse::Range;
 
-// Where the first zero byte at or behind o stands.
+// Where the first zero byte at or behind o stands. `position` in the part from o on counts from there, and has to be counted back.
 #[tactic(auto, using(parse::proofs::Laws::first_here, parse::proofs::Laws::first_later, parse::proofs::Laws::first_none, std::proofs::lemmas::Bool::Decides::nat_tests), unfolding(crate::specs::Text::end_of))]
 pub fn end_of(t: &[u8], o: usize) -> Option<usize>
     ensures { result ≡ end_of t.now o }
@@ -71,21 +75,25 @@ pub struct Strings<'a> {
     pub ghost known: { ends ≡ ends_of bytes.now },
 }
 
-// A name, and whether it holds no zero byte: told once, as many strings are compared with one name.
-#[derive(Clone, Copy)]
-pub struct Name<'a> {
-    pub bytes: &'a [u8],
-    pub clean: bool,
-    pub ghost told: { clean ≡ is_clean bytes.now },
-}
-
-impl<'a> Name<'a> {
-    pub fn new(bytes: &'a [u8]) -> Name<'a>
-        ensures { result.bytes.now ≡ bytes.now }
+impl<'a> CleanName<'a> {
+    #[tactic(auto, unfolding(crate::specs::Names::bytes_of))]
+    pub fn new(bytes: &'a [u8]) -> Result<CleanName<'a>, UncleanName<'a>>
+        ensures { bytes_of result ≡ bytes.now }
     {
-        Name {
-            bytes,
-            clean: is_clean(bytes),
+        if is_clean(bytes) {
+            return Ok(CleanName { bytes });
+        }
+        Err(UncleanName { bytes })
+    }
+
+    // What stands behind the first k bytes.
+    #[tactic(auto, using(crate::proofs::Laws::behind_clean, crate::proofs::Notes::rest))]
+    fn behind(&self, k: usize) -> CleanName<'a>
+        requires { k ≤ length self.now.bytes.now }
+        ensures { result.bytes.now ≡ drop k self.now.bytes.now }
+    {
+        CleanName {
+            bytes: &self.bytes[k..],
         }
     }
 }
@@ -122,16 +130,15 @@ impl<'a> Strings<'a> {
     // the place n bytes behind them, so all comparisons of one name with distinct offsets take together at most as many turns as the
     // table has bytes.
     #[tactic(auto, using(crate::proofs::Laws::ends_inside, crate::proofs::Laws::there_below, crate::proofs::Laws::at_outside, crate::proofs::Laws::at_unended, crate::proofs::Laws::at_run))]
-    pub fn same_at(&self, o: usize, name: &[u8]) -> bool
-        requires there { text_fault self.now.bytes.now o ≡ Ok tt }
-        requires clean { is_clean name.now ≡ true }
-        ensures { result ≡ same_bytes (text_at self.now.bytes.now o) name.now }
+    pub fn same_at(&self, o: usize, name: &CleanName) -> bool
+        requires { text_fault self.now.bytes.now o ≡ Ok tt }
+        ensures { result ≡ same_bytes (text_at self.now.bytes.now o) name.now.bytes.now }
     {
-        let n = name.len();
+        let n = name.bytes.len();
         if self.ends - o <= n || self.bytes[o + n] != 0 {
             return false;
         }
-        same_run(self.bytes, o, name)
+        same_run(self.bytes, o, name.bytes)
     }
 
     // How many offsets one mark stands for: as many as it takes to mark all offsets of the table with 1,024 bytes of marks.
@@ -145,29 +152,29 @@ impl<'a> Strings<'a> {
     // not the name at those of them where the name's last bytes, as many as a span has, stand before a zero byte. There is at most one
     // such offset to a mark: the name holds no zero byte, so two of them are more than a span apart. So a comparison reads no more than
     // a span's bytes of the name, but for one at each offset that reads the rest of it.
-    pub fn same_noted(&self, o: usize, name: &[u8], marks: &mut [u8]) -> bool
+    pub fn same_noted(&self, o: usize, name: &CleanName, marks: &mut [u8]) -> bool
         requires there { text_fault self.now.bytes.now o ≡ Ok tt }
-        requires clean { is_clean name.now ≡ true }
-        requires noted_before { Notes self.now.bytes.now name.now marks.old }
-        ensures answer { result ≡ same_bytes (text_at self.now.bytes.now o) name.now }
-        ensures noted_after { marks.new ≡ noted self.now.bytes.now name.now o marks.old }
+        requires noted_before { Notes self.now.bytes.now name.now.bytes.now marks.old }
+        ensures answer { result ≡ same_bytes (text_at self.now.bytes.now o) name.now.bytes.now }
+        ensures noted_after { marks.new ≡ noted self.now.bytes.now name.now.bytes.now o marks.old }
     {
         let span = self.span();
-        if name.len() <= span {
+        let n = name.bytes.len();
+        if n <= span {
             return self.same_at(o, name);
         }
-        if self.ends - o <= name.len() {
+        if self.ends - o <= n {
             return false;
         }
-        let front = name.len() - span;
-        if !self.same_at(o + front, &name[front..]) {
+        let front = n - span;
+        if !self.same_at(o + front, &name.behind(front)) {
             return false;
         }
         let i = o / span;
         if marks::is_marked(marks, i) {
             return false;
         }
-        if same_run(self.bytes, o, &name[..front]) {
+        if same_run(self.bytes, o, &name.bytes[..front]) {
             return true;
         }
         marks::mark(marks, i);
@@ -175,16 +182,19 @@ impl<'a> Strings<'a> {
     }
 
     // Whether the string at o is the name. An offset where no string stands is refused.
-    #[tactic(auto, using(crate::proofs::Laws::unclean_other))]
-    pub fn compare(&self, o: usize, name: &Name) -> Result<bool, Fault>
-        ensures { result ≡ answer (text_fault self.now.bytes.now o) (same_bytes (text_at self.now.bytes.now o) name.now.bytes.now) }
+    #[tactic(auto, using(crate::proofs::Laws::unclean_other), unfolding(crate::specs::Names::bytes_of))]
+    pub fn compare(&self, o: usize, name: &Result<CleanName, UncleanName>) -> Result<bool, Fault>
+        ensures { result ≡ answer (text_fault self.now.bytes.now o) (same_bytes (text_at self.now.bytes.now o) (bytes_of name.now)) }
     {
         self.fault(o)?;
-        Ok(name.clean && self.same_at(o, name.bytes))
+        match name {
+            Ok(clean) => Ok(self.same_at(o, clean)),
+            Err(_) => Ok(false),
+        }
     }
 }
 
-// Whether the bytes of a name stand at o, a byte at a time, from the end backwards.
+// Whether the bytes of a name stand at o, a byte at a time, from the end backwards: equality of slices would begin at the front.
 fn same_short(t: &[u8], o: usize, name: &[u8]) -> bool
     requires { o + length name.now ≤ length t.now }
     ensures { result ≡ same_run t.now o name.now }
@@ -233,7 +243,8 @@ pub fn is_long(name: &[u8]) -> bool
     name.len() >= 256
 }
 
-// The bytes of a sequence that are still to come: how many, and from where to where the next one may be.
+// The bytes of a sequence that are still to come: how many, and from where to where the next one may be. Where none may follow that
+// is an empty stretch and no Option, so that a byte costs no test more.
 #[derive(Clone, Copy, Debug, PartialEq, Eq)]
 struct Awaited {
     more: u8,
@@ -281,7 +292,7 @@ fn next(a: Awaited, b: u8) -> Awaited
     }
 }
 
-// Whether the bytes are well-formed UTF-8.
+// Whether the bytes are well-formed UTF-8, as the document's table has it: that table is the definition, so it is what is followed.
 pub fn is_utf8(s: &[u8]) -> bool
     ensures { result ≡ well_formed s.now }
 {

@@ -47,7 +47,7 @@ fn walk_in<const N: usize, E: Row<N>>(
     n
 }
 
-// As many entries from number `from` on as there are and as `out` has room for; answers how many.
+// As many entries from number `from` on as there are and as `out` has room for; answers how many: `out` is lent from C.
 pub fn walk<const N: usize, E: Row<N>>(
     class: Class,
     order: Order,

@@ -210,8 +210,8 @@ fn put_header(class: Class, h: FileHeader, d: &mut [u8])
     h.shstrndx.put(h.order, d, last + 14);
 }
 
-// A file header, in the class and the order that it says itself, at the start of a lent slice. This and the two below are `write`,
-// each with its own promise.
+// A file header, in the class and the order that it says itself, at the start of a lent slice. It says its
+// class and order itself, so it is not written by `write`, as the two below are.
 #[tactic(auto, using(crate::proofs::Rows::room_left, crate::proofs::Rows::fitting, crate::proofs::ReadsBack::header_reads_back))]
 pub fn write_file_header(h: FileHeader, d: &mut [u8]) -> Result<(), Fault>
     ensures { WroteHeader h d.old d.new result }

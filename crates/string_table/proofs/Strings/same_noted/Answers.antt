@@ -3,15 +3,14 @@
 use native.Mathlib.Omega.{arith}
 use mathlib.Core.Path.{sym, ◌∙◌}
 use lib.ListN.{length-take}
-use Rattle.string_table.specs.Noted.{front_of}
 use Rattle.string_table.proofs.Laws.{ends_inside, there_below}
-use Rattle.string_table.proofs.Notes.{rest, mark_there, short, outside, tail_there, rest_clean, unended, seen_before, seen_same, seen_new}
+use Rattle.string_table.proofs.Notes.{mark_there, short, outside, tail_there, unended, seen_before, seen_same, seen_new}
 use Rattle.string_table.proofs.Strings.same_noted.Goals as goal
 
-pub returns-then-name-span : goal.returns-then-name-span
-returns-then-name-span c =
+pub returns-then-n-span : goal.returns-then-n-span
+returns-then-n-span c =
     let p = c.requires in
-    let k = short _ _ _ _ p.there p.clean p.noted_before _ c.span-span.ensures c.if-name-span.true _ c.same_at.ensures in
+    let k = short _ _ _ _ p.there c.args.name.now.clean p.noted_before _ c.span-span.ensures c.if-n-span.true _ c.same_at.ensures in
     record { answer = k.0; noted_after = k.1 }
 
 pub overflow_sub-self : goal.overflow_sub-self
@@ -20,32 +19,29 @@ overflow_sub-self c = omega (arith, there_below _ _ c.requires.there)
 pub returns-then-self-o : goal.returns-then-self-o
 returns-then-self-o c =
     let p = c.requires in
-    let k = outside _ _ _ _ p.there p.clean p.noted_before _ c.span-span.ensures (omega arith) (omega arith) in
+    let k = outside _ _ _ _ p.there c.args.name.now.clean p.noted_before _ c.span-span.ensures (omega arith) (omega arith) in
     record { answer = k.0; noted_after = k.1 }
 
 pub same_at-requires-2 : goal.same_at-requires-2
 same_at-requires-2 c =
     let p = c.requires in
-    record {
-      there = tail_there _ _ _ _ p.there p.clean p.noted_before _ c.span-span.ensures (omega arith) (omega arith);
-      clean = rest_clean _ _ _ _ p.there p.clean p.noted_before _ c.span-span.ensures (omega arith);
-    }
+    tail_there _ _ _ _ p.there c.args.name.now.clean p.noted_before _ c.span-span.ensures (omega arith) (omega arith)
 
 pub returns-then-not-same_at : goal.returns-then-not-same_at
 returns-then-not-same_at c =
     let p = c.requires in
-    let e = sym (rw (rest (front_of c.span-span.result c.args.name.now) c.args.name.now) at c.same_at-2.ensures) ∙ c.if-not-same_at.true in
-    let k = unended _ _ _ _ p.there p.clean p.noted_before _ c.span-span.ensures (omega arith) (omega arith) e in
+    let e = sym (rw c.behind.ensures at c.same_at-2.ensures) ∙ c.if-not-same_at.true in
+    let k = unended _ _ _ _ p.there c.args.name.now.clean p.noted_before _ c.span-span.ensures (omega arith) (omega arith) e in
     record { answer = k.0; noted_after = k.1 }
 
 pub is_marked-requires : goal.is_marked-requires
-is_marked-requires c = let p = c.requires in mark_there _ _ _ _ p.there p.clean p.noted_before _ c.span-span.ensures
+is_marked-requires c = let p = c.requires in mark_there _ _ _ _ p.there c.args.name.now.clean p.noted_before _ c.span-span.ensures
 
 pub returns-then-is_marked : goal.returns-then-is_marked
 returns-then-is_marked c =
     let p = c.requires in
-    let e = sym (rw (rest (front_of c.span-span.result c.args.name.now) c.args.name.now) at c.same_at-2.ensures) ∙ c.if-not-same_at.false in
-    let k = seen_before _ _ _ _ p.there p.clean p.noted_before _ c.span-span.ensures (omega arith) (omega arith) e (sym c.is_marked.ensures ∙ c.if-is_marked.true) in
+    let e = sym (rw c.behind.ensures at c.same_at-2.ensures) ∙ c.if-not-same_at.false in
+    let k = seen_before _ _ _ _ p.there c.args.name.now.clean p.noted_before _ c.span-span.ensures (omega arith) (omega arith) e (sym c.is_marked.ensures ∙ c.if-is_marked.true) in
     record { answer = k.0; noted_after = k.1 }
 
 pub same_run-requires : goal.same_run-requires
@@ -54,16 +50,16 @@ same_run-requires c = simp (length-take) (omega (arith, ends_inside c.args.self.
 pub returns-then-same_run : goal.returns-then-same_run
 returns-then-same_run c =
     let p = c.requires in
-    let e = sym (rw (rest (front_of c.span-span.result c.args.name.now) c.args.name.now) at c.same_at-2.ensures) ∙ c.if-not-same_at.false in
-    let k = seen_same _ _ _ _ p.there p.clean p.noted_before _ c.span-span.ensures (omega arith) (omega arith) e (sym c.same_run.ensures ∙ c.if-same_run.true) in
+    let e = sym (rw c.behind.ensures at c.same_at-2.ensures) ∙ c.if-not-same_at.false in
+    let k = seen_same _ _ _ _ p.there c.args.name.now.clean p.noted_before _ c.span-span.ensures (omega arith) (omega arith) e (sym c.same_run.ensures ∙ c.if-same_run.true) in
     record { answer = k.0; noted_after = k.1 }
 
 pub mark-requires : goal.mark-requires
-mark-requires c = let p = c.requires in mark_there _ _ _ _ p.there p.clean p.noted_before _ c.span-span.ensures
+mark-requires c = let p = c.requires in mark_there _ _ _ _ p.there c.args.name.now.clean p.noted_before _ c.span-span.ensures
 
 pub returns : goal.returns
 returns c =
     let p = c.requires in
-    let e = sym (rw (rest (front_of c.span-span.result c.args.name.now) c.args.name.now) at c.same_at-2.ensures) ∙ c.if-not-same_at.false in
-    let k = seen_new _ _ _ _ p.there p.clean p.noted_before _ c.span-span.ensures (omega arith) (omega arith) e (sym c.is_marked.ensures ∙ c.if-is_marked.false) (sym c.same_run.ensures ∙ c.if-same_run.false) in
+    let e = sym (rw c.behind.ensures at c.same_at-2.ensures) ∙ c.if-not-same_at.false in
+    let k = seen_new _ _ _ _ p.there c.args.name.now.clean p.noted_before _ c.span-span.ensures (omega arith) (omega arith) e (sym c.is_marked.ensures ∙ c.if-is_marked.false) (sym c.same_run.ensures ∙ c.if-same_run.false) in
     record { answer = k.0; noted_after = c.mark.ensures ∙ k.1 }
