@@ -1,7 +1,7 @@
 -- What is known of a file that is begun: its program headers lie in it, and each can be read.
 -- Assumes nothing.
 use Prim.Native.Nat.{ℕ, suc, ◌+◌, ◌-◌, ◌*◌, ◌/◌, ◌≤◌, ◌<◌}
-use native.Mathlib.Nat.{mul-le-mul_left, mul-le-mul_right, suc-mul, div-mul-le_self}
+use native.Mathlib.Nat.{mul-le-mul_right, suc-mul, div-mul-le_self}
 use native.Mathlib.Omega.{arith}
 use mathlib.Core.Path.{◌≡◌, refl}
 use mathlib.Core.Bool.{Bool, true, false, cond}
@@ -46,12 +46,6 @@ seg_in f j k h lt =
     let size = size_of program_header j.class in
     let m : suc k * size ≤ j.count * size = mul-le-mul_right size lt in
     let n : k * size + size ≤ j.count * size = rw suc-mul at m in
-    omega (arith, h.table_in_file)
-
--- there are not more headers than bytes
-pub count_short : (f : List ℕ) (j : Job) → Held f j → j.count ≤ length f
-count_short f j h =
-    let m : j.count * 1 ≤ j.count * size_of program_header j.class = mul-le-mul_left j.count (omega (arith, size_bounds j.class)) in
     omega (arith, h.table_in_file)
 
 -- the table of an opened file lies in it

@@ -3,11 +3,11 @@
 -- Assumes nothing.
 use Prim.Native.Nat.{ℕ, zero, suc, ◌+◌, ◌*◌, ◌≤◌, ◌<◌}
 use native.Mathlib.Numerals.{add-one}
-use native.Mathlib.Nat.{suc-mul, zero-mul, div-le_self, le-div_iff_mul-le}
+use native.Mathlib.Nat.{suc-mul, zero-mul, div-le_self}
 use native.Mathlib.Omega.{arith}
-use mathlib.Core.Path.{◌≡◌, refl, sym, ap, ap₂, ◌∙◌}
+use mathlib.Core.Path.{◌≡◌, sym, ap, ap₂, ◌∙◌}
 use mathlib.Core.List.{List, ◌++◌}
-use lib.ListN.{length, drop, length-append, length-drop}
+use lib.ListN.{length, drop, length-append}
 use Rattle.parse.proofs.Laws.{inside}
 use Rattle.memory.specs.Run.{put}
 use Rattle.memory.proofs.Put.{put_next}
@@ -20,10 +20,6 @@ module _ (row : ℕ → List ℕ) (w : ℕ) (wide : (i : ℕ) → length (row i)
   unfolding rows_from
   rows_length i zero = omega arith
   rows_length i (suc n) = length-append (rows_from row i n) (row (i + n)) ∙ ap₂ (λ (x y : ℕ). x + y) (rows_length i n) (wide (i + n)) ∙ sym (suc-mul n w)
-
-  -- what a walk has left behind after n turns is as long as what it found
-  pub walked_length : (i n : ℕ) (old : List ℕ) → n * w ≤ length old → length (rows_from row i n ++ drop (n * w) old) ≡ length old
-  walked_length i n old h = simp (length-append, rows_length i n, length-drop) (omega arith)
 
   -- before the first turn
   pub no_turn : (i : ℕ) (old : List ℕ) → old ≡ rows_from row i 0 ++ drop (0 * w) old
@@ -50,7 +46,3 @@ batch_row size len i width room k p h = inside width room k p (omega arith)
 pub batch_number : (size len i width room k : ℕ) → k < batch_of size len i width room → i + k < len
 unfolding batch_of
 batch_number size len i width room k h = omega (arith, div-le_self len size)
-
-pub batch_rows : (size len i width room n : ℕ) → 0 < width → n ≤ batch_of size len i width room → n * width ≤ room
-unfolding batch_of
-batch_rows size len i width room n p h = (le-div_iff_mul-le {k = width} {x = n} {y = room} p).0 (omega arith)

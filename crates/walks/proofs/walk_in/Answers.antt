@@ -1,7 +1,7 @@
 -- `walks::walk_in` meets its contract: each turn's entry lies in the table, and its row in the array.
 -- Assumes nothing.
-use Rattle.std.proofs.Common.{ℕ, ◌+◌, ◌*◌, ◌<◌, ◌≤◌, length, ◌≡◌, List, ap, sym, ◌∙◌, arith, rules}
-use Rattle.walks.specs.Walk.{batch_of, rows_from}
+use Rattle.std.proofs.Common.{◌+◌, ◌*◌, ◌<◌, ◌≤◌, length, ◌≡◌, ◌∙◌, arith}
+use Rattle.walks.specs.Walk.{batch_of}
 use Rattle.walks.proofs.Turns.{no_turn, turn, batch_entry, batch_row, batch_number}
 use Rattle.walks.proofs.walk_in.Given.{Over}
 use Rattle.walks.proofs.walk_in.Goals as goal

@@ -1,6 +1,6 @@
 -- `walks::walk_in` meets its contract. The invariant: the rows of the entries passed stand in front, and the rest is as it was.
 -- Assumes nothing.
-use Rattle.std.proofs.Common.{◌≡◌, ◌+◌, ◌*◌, ◌++◌, drop}
+use Rattle.std.proofs.Common.{◌≡◌, ◌*◌, ◌++◌, drop}
 use Rattle.walks.specs.Walk.{rows_from}
 use Rattle.walks.proofs.walk_in.Given as goal
 
