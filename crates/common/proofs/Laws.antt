@@ -1,6 +1,6 @@
 -- The laws of the walk for common data: a fault stays the answer, and a hash table's header tells its range.
 -- Assumes nothing.
-use Rattle.std.proofs.Common.{◌≡◌, ℕ, zero, suc, ◌+◌, ◌*◌, ◌≤◌, List, length, Result, Ok, Err, add-zero, refl, arith}
+use Rattle.std.proofs.Common.{◌≡◌, ℕ, zero, suc, ◌+◌, ◌*◌, ◌≤◌, List, length, Ok, Err, add-zero}
 use native.Mathlib.Nat.{add-suc}
 use Rattle.endian.specs.Range.{answer}
 use Rattle.endian.specs.declared.fault.Fault.{Fault}

@@ -1,10 +1,12 @@
 -- One turn of the walk over the sections of an opened file whose section headers are the table t.
 -- Assumes nothing.
-use Rattle.std.proofs.Common.{◌≡◌, ℕ, suc, ◌+◌, ◌-◌, ◌*◌, ◌^◌, ◌≤◌, ◌<◌, List, length, drop, Bool, true, false, cond, ◌||◌, eqb, Option, Some, None, Result, Ok, Err, refl, sym, ap, ◌∙◌, length-drop, arith}
+use Rattle.std.proofs.Common.{◌≡◌, ℕ, ◌+◌, ◌-◌, ◌*◌, ◌^◌, ◌≤◌, ◌<◌, List, length, drop, Bool, true, false, cond, ◌||◌, eqb, Option, Some, None, Result, Ok, refl, sym, ap, ◌∙◌, length-drop, arith}
 use mathlib.Core.Bool.{or-true}
 use lib.Seq.{length-take-le}
 use borrow.Author.Tests.{le-leb, ne_eqb}
+use Rattle.std.specs.Prelude.{⊤}
 use Rattle.endian.specs.Number.{number_at}
+use Rattle.endian.specs.Range.{answer}
 use Rattle.endian.specs.Place.{size_of, section_header}
 use Rattle.endian.specs.declared.fault.Fault.{Fault}
 use Rattle.endian.specs.declared.Class.{Class}
@@ -12,14 +14,14 @@ use Rattle.endian.specs.declared.Class.TheVariants.{Elf32, Elf64}
 use Rattle.parse.specs.Entry.{count_of, part_of}
 use Rattle.parse.specs.declared.Range.{Range}
 use Rattle.parse.proofs.Laws.{inside, readable}
-use Rattle.section.specs.Layout.{section_at}
+use Rattle.section.specs.Layout.{section_at, extent_of}
+use Rattle.section.specs.declared.Extent.{Extent}
 use Rattle.section.specs.declared.SectionHeader.{SectionHeader}
 use Rattle.section.proofs.Same.{kind_at}
 use Rattle.elf_bytes.specs.declared.Elf.{Elf}
 use Rattle.contents.specs.Contents.{header_from, section_in}
 use Rattle.common.specs.Common.{no_common, sections_of, adding, symtab_told, dynsym_told, dynamic_told, hash_told, collected, step_of, below_of}
 use Rattle.common.specs.declared.Common.{Common}
-use Rattle.common.proofs.Laws.{below_next, below_refused}
 
 -- type and name stand in front of every header
 pub entry_wide : (c : Class) → 8 ≤ size_of section_header c
@@ -62,7 +64,17 @@ module _ (s : List ℕ) (elf : Elf) (r : Range) (t : List ℕ) (p : elf.sections
   unfolding section_in
   read = ap (λ (x : Option Range). header_from (size_of section_header) section_at s elf x i) p ∙ (rw (← q, readable _ _ i (omega (arith, entry_wide elf.class)) l h))
 
-  -- and adds nothing unless its type is one of four
+  -- and adds what is said of a header of its type and its extent
+  pub turn_told : (c new : Common) (k : ℕ) (x : Extent) (g : Result ⊤ Fault) → k ≡ number_at elf.order 4 t (i * size_of section_header elf.class + 4)
+      → x ≡ extent_of (section_at elf.class elf.order t (i * size_of section_header elf.class))
+      → ((h : SectionHeader) → k ≡ h.kind → x ≡ extent_of h → answer g new ≡ collected s elf c h) → step_of s elf c i ≡ answer g new
+  unfolding step_of
+  turn_told c new k x g p q told =
+      let o = i * size_of section_header elf.class in
+      let h = section_at elf.class elf.order t o in
+      rw read (sym (told h (p ∙ sym (kind_at elf.class elf.order t o)) q))
+
+  -- which is nothing unless its type is one of four
   pub adds_nothing : (c : Common) (k : ℕ) → k ≡ number_at elf.order 4 t (i * size_of section_header elf.class + 4) → adding k ≡ false → step_of s elf c i ≡ Ok c
   unfolding step_of
   adds_nothing c k e a =

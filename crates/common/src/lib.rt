@@ -3,13 +3,16 @@
 #![tactic(auto)]
 
 ghost use Rattle.std.specs.Prelude.{◌≡◌, ◌+◌, ◌^◌, ◌<◌, length};
-ghost use Rattle.common.specs.Common.{hash_in, hash_of, adding, collected, step_of, sections_of, below_of, finished, common_of};
+ghost use Rattle.endian.specs.Range.{answer};
+ghost use Rattle.section.specs.Layout.{extent_of};
+ghost use Rattle.section.specs.declared.SectionHeader.{SectionHeader};
+ghost use Rattle.common.specs.Common.{hash_in, hash_of, adding, collected, sections_of, below_of, finished, common_of};
 
 use contents::{Asked, SymbolTable};
 use elf_bytes::ElfBytes;
 use endian::{Fault, Number, Order};
 use parse::{ParseAt, Range};
-use section::SectionHeader;
+use section::{Extent, SectionHeader};
 
 // A file's symbol tables of types 2 and 11, its dynamic entries, and its hash table from the header to the end of the chains.
 #[derive(Clone, Copy, Debug, PartialEq, Eq)]
@@ -42,42 +45,22 @@ fn hash_of(order: Order, d: &[u8], offset: usize, size: usize) -> Result<Range, 
     hash_in(order, r.from, r.part(d))
 }
 
-// What a section adds to what those before it gave: symbols (types 2 and 11), dynamic entries (6), a hash table (5).
+// What a section of the given type and extent adds to what those before it gave: symbols (types 2 and 11), dynamic entries (6), a hash
+// table (5). It is put where it belongs: no other part is copied.
 #[tactic(auto, unfolding(crate::specs::Common::collected))]
-fn collected(file: &ElfBytes, c: Common, h: SectionHeader) -> Result<Common, Fault>
-    ensures { result ≡ collected file.now.bytes.now file.now.elf c h }
+fn add(file: &ElfBytes, c: &mut Common, kind: u32, x: Extent) -> Result<(), Fault>
+    ensures { (h : SectionHeader) → kind ≡ h.kind → x ≡ extent_of h
+        → answer result c.new ≡ collected file.now.bytes.now file.now.elf c.old h }
 {
-    let asked = Asked::from(h.extent());
-    match h.kind {
-        2 => Ok(Common {
-            symtab: Some(contents::symbols_in(file, asked)?),
-            ..c
-        }),
-        11 => Ok(Common {
-            dynsym: Some(contents::symbols_in(file, asked)?),
-            ..c
-        }),
-        6 => Ok(Common {
-            dynamic: Some(contents::dynamic_in(file, h.kind, asked)?),
-            ..c
-        }),
-        5 => Ok(Common {
-            hash: Some(hash_of(file.elf.order, file.bytes, asked.offset, asked.size)?),
-            ..c
-        }),
-        _ => Ok(c),
+    let asked = Asked::from(x);
+    match kind {
+        2 => c.symtab = Some(contents::symbols_in(file, asked)?),
+        11 => c.dynsym = Some(contents::symbols_in(file, asked)?),
+        6 => c.dynamic = Some(contents::dynamic_in(file, kind, asked)?),
+        5 => c.hash = Some(hash_of(file.elf.order, file.bytes, asked.offset, asked.size)?),
+        _ => {}
     }
-}
-
-// What section i adds; a section that can't be read adds nothing.
-#[tactic(auto, unfolding(crate::specs::Common::step_of))]
-fn step(file: &ElfBytes, c: Common, i: usize) -> Result<Common, Fault>
-    ensures { result ≡ step_of file.now.bytes.now file.now.elf c i }
-{
-    match contents::section_in(file, i) {
-        Ok(h) => collected(file, c, h),
-        Err(_) => Ok(c),
-    }
+    Ok(())
 }
 
 // Whether sections of a type add something.
@@ -105,7 +88,8 @@ fn gather(file: &ElfBytes) -> Result<Common, Fault>
     for i in 0..parse::count(size, headers.len()) {
         let kind = u32::read(file.elf.order, headers, i * size + 4);
         if adds(kind) {
-            c = step(file, c, i)?;
+            let x = parse::entry_in(file.elf.class, file.elf.order, headers, i * size);
+            add(file, &mut c, kind, x)?;
         }
     }
     Ok(c)

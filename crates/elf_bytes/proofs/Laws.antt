@@ -1,6 +1,6 @@
 -- The laws of opening: a table that is told lies in the file, and so do the tables of every opened file; an opened file has a whole header.
 -- Assumes nothing.
-use Rattle.std.proofs.Common.{◌≡◌, ℕ, ◌+◌, ◌*◌, ◌^◌, ◌≤◌, ◌<◌, List, length, Bool, true, false, cond, leb, eqb, Option, Some, None, Result, Ok, Err, refl, sym, arith}
+use Rattle.std.proofs.Common.{◌≡◌, ℕ, ◌+◌, ◌*◌, ◌^◌, ◌≤◌, ◌<◌, List, length, Bool, true, false, cond, leb, eqb, Option, Some, None, Result, Ok, Err, refl, sym, ap, arith}
 use Rattle.std.specs.Prelude.{⊤}
 use Rattle.std.proofs.lemmas.Bool.Decides.{nat_tests}
 use borrow.Author.Tests.{leb-true}
@@ -12,12 +12,21 @@ use Rattle.endian.specs.declared.fault.Fault.{Fault}
 use Rattle.endian.specs.declared.fault.Fault.TheVariants.{OutsideData}
 use Rattle.endian.specs.declared.Order.{Order}
 use Rattle.endian.specs.declared.Class.{Class}
-use Rattle.file.specs.Layout.{header_at}
+use Rattle.file.specs.Layout.{header_at, outline_of}
 use Rattle.file.specs.Open.{ident_of, header_of}
 use Rattle.file.specs.declared.FileHeader.{FileHeader}
+use Rattle.file.specs.declared.Outline.{Outline}
 use Rattle.file.specs.declared.Ident.{Ident}
 use Rattle.elf_bytes.specs.Open.{zero_fault, table_fault, table_at, section_count, segment_count, sections_in, segments_in, open_with, open_of, elf_of, Tabled, Whole}
 use Rattle.elf_bytes.specs.declared.Elf.{Elf}
+
+-- what opening answers, by the outline of the header
+module _ (c : Class) (e : Order) (s : List ℕ) (x : Outline) (q : x ≡ outline_of (header_at c e s)) where
+  pub outlined : open_with s (header_at c e s) ≡ (sections_in c e s x.shoff x.shnum x.shentsize
+      >>= λ a. segments_in c e s x.shoff x.phoff x.phnum x.phentsize >>= λ b. Ok (elf_of (header_at c e s) a b))
+  unfolding open_with header_at
+  outlined = ap (λ (y : Outline). sections_in c e s y.shoff y.shnum y.shentsize
+      >>= λ a. segments_in c e s y.shoff y.phoff y.phnum y.phentsize >>= λ b. Ok (elf_of (header_at c e s) a b)) (sym q)
 
 -- a section header 0 that can be read lies in the file
 pub zero_whole : (c : Class) (len o : ℕ) → zero_fault c len o ≡ Ok tt → o + size_of section_header c ≤ len
@@ -63,7 +72,7 @@ unfolding segments_in
 segments_whole c e s z o n given t p = maybe s (eqb o 0) _ t (tabled_in s o given (size_of program_header c) (segment_count c e s z n) t) p
 
 -- what opening says is said of the header's class and order, and its tables lie in the file
-opened_with : (s : List ℕ) (h : FileHeader) (elf : Elf) → open_with s h ≡ Ok elf → Whole s elf × (elf.class ≡ h.class) × (elf.order ≡ h.order)
+pub opened_with : (s : List ℕ) (h : FileHeader) (elf : Elf) → open_with s h ≡ Ok elf → Whole s elf × (elf.class ≡ h.class) × (elf.order ≡ h.order)
 unfolding open_with
 opened_with s h elf e =
     let a = first_step (sections_in h.class h.order s h.shoff h.shnum h.shentsize) _ elf e in

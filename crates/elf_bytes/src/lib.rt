@@ -51,7 +51,9 @@ fn zero_fault(class: Class, len: usize, o: usize) -> Result<(), Fault>
     }
 }
 
-// Section header 0.
+// Section header 0. Where it is put into its callers only the one field that each asks for is read; else two whole headers would
+// lie on the stack of every question.
+#[inline(always)]
 #[tactic(auto, using(crate::proofs::Laws::zero_whole))]
 fn zero_header(class: Class, order: Order, d: &[u8], o: usize) -> Result<SectionHeader, Fault>
     ensures { result ≡ zero_header class order d.now o }

@@ -26,7 +26,7 @@ pub joined_parts : (e : Order) (a b n : ℕ) → joined e a b (front e a b n) (b
 joined_parts Little a b n = mod-add-div n (256 ^ a)
 joined_parts Big a b n = div-add-mod n (256 ^ b)
 
-power_pos : (a : ℕ) → zero < 256 ^ a
+pub power_pos : (a : ℕ) → zero < 256 ^ a
 power_pos zero = omega arith
 power_pos (suc a) = let h = power_pos a in rw (pow-suc 256 a) (omega arith)
 

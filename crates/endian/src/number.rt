@@ -144,8 +144,8 @@ impl Store for u16 {
     #[tactic(auto, using(crate::proofs::Stored::little2, crate::proofs::Stored::big2))]
     fn put(self, order: Order, d: &mut [u8], o: usize) {
         match order {
-            Order::Little => place(d, o, &self.to_le_bytes()),
-            Order::Big => place(d, o, &self.to_be_bytes()),
+            Order::Little => place(d, o, &u16::to_le_bytes(self)),
+            Order::Big => place(d, o, &u16::to_be_bytes(self)),
         }
     }
 }
@@ -156,8 +156,8 @@ impl Store for u32 {
     #[tactic(auto, using(crate::proofs::Stored::little4, crate::proofs::Stored::big4))]
     fn put(self, order: Order, d: &mut [u8], o: usize) {
         match order {
-            Order::Little => place(d, o, &self.to_le_bytes()),
-            Order::Big => place(d, o, &self.to_be_bytes()),
+            Order::Little => place(d, o, &u32::to_le_bytes(self)),
+            Order::Big => place(d, o, &u32::to_be_bytes(self)),
         }
     }
 }
@@ -168,8 +168,8 @@ impl Store for u64 {
     #[tactic(auto, using(crate::proofs::Stored::little8, crate::proofs::Stored::big8))]
     fn put(self, order: Order, d: &mut [u8], o: usize) {
         match order {
-            Order::Little => place(d, o, &self.to_le_bytes()),
-            Order::Big => place(d, o, &self.to_be_bytes()),
+            Order::Little => place(d, o, &u64::to_le_bytes(self)),
+            Order::Big => place(d, o, &u64::to_be_bytes(self)),
         }
     }
 }

@@ -46,8 +46,8 @@ module _ (f : List ℕ) (w : Window) (table table' : List ℕ) (n : ℕ) (p : Ma
   pub not_refused : (old : List ℕ) → length old ≡ w.len → (r : Refusal) → Err r ≡ verdict_of w (length f) table' n (length old) → ⊥
   not_refused old hm r e = let z : ◌≡◌ {A = Result ⊤ Refusal} (Err r) (Ok tt) = e ∙ carried old hm in cc
 
-  pub done : (old new : List ℕ) → length old ≡ w.len → CarriedOut f w table' n old new (Ok tt) → Done f w table' n old new
-  done old new hm c =
+  accepted : (old new : List ℕ) → length old ≡ w.len → CarriedOut f w table' n old new (Ok tt) → Done f w table' n old new
+  accepted old new hm c =
       let j = begins.job in
       let acc = begins.accepted_is in
       let rs = plan_in f w j in
@@ -60,3 +60,7 @@ module _ (f : List ℕ) (w : Window) (table table' : List ℕ) (n : ℕ) (p : Ma
         pieces = safe_plan;
         image = subst (λ (z : List ℕ). Loaded f j w old z) (sym e) (all_loaded f j w (length table) acc rest old hm);
       }
+
+  -- what is said of carrying it out, whatever the answer: it is not refused
+  pub done : (old new : List ℕ) (r : Result ⊤ Refusal) → length old ≡ w.len → CarriedOut f w table' n old new r → Done f w table' n old new
+  done old new r hm c = accepted old new hm (subst (λ (d : Result ⊤ Refusal). CarriedOut f w table' n old new d) (c.answers ∙ carried old hm) c)

@@ -10,21 +10,21 @@ use mathlib.Core.List.{List}
 use mathlib.Core.Logic.{⊎_elim}
 use borrow.Author.Tests.{lt-ltb, le-ltb}
 use Rattle.segment.specs.declared.ProgramHeader.{ProgramHeader}
-use Rattle.load_rules.specs.Rules.{real, outside, good_window, low, down, up, first}
+use Rattle.load_rules.specs.Rules.{any_below, real, outside, good_window, low, down, up, first}
 use Rattle.load_rules.specs.Facts.{Placed}
 use Rattle.load_rules.specs.declared.Window.{Window}
 use Rattle.load_rules.proofs.Tests.{none_at}
 use Rattle.load_rules.proofs.Pages.{placed, down_from, up_from}
 use Rattle.load_plan.specs.declared.Job.{Job}
-use Rattle.load_plan.specs.Plan.{seg_at, passes, some}
+use Rattle.load_plan.specs.Plan.{seg_at, passes}
 use Rattle.load_plan.specs.Facts.{count_below, end_below, crossed}
 
 -- a segment that counts lies in the window, once none is outside
-pub placed_at : (f : List ℕ) (j : Job) (w : Window) (l k : ℕ) (s : ProgramHeader) → l ≡ low j.kind w → s ≡ seg_at f j k → real s ≡ true → good_window w ≡ true
-    → some f j (outside l w.len) ≡ false → k < j.count → Placed l w s
+pub placed_at : (f : List ℕ) (j : Job) (w : Window) (l k : ℕ) {n : ℕ} (s : ProgramHeader) → l ≡ low j.kind w → s ≡ seg_at f j k → real s ≡ true → good_window w ≡ true
+    → any_below (passes (outside l w.len) (seg_at f j)) n ≡ false → k < n → Placed l w s
 unfolding passes
-placed_at f j w l k s el es r g none lt =
-    let o : outside l w.len s ≡ false = ap (outside l w.len) es ∙ none_at (passes (outside l w.len) (seg_at f j)) j.count k none lt in
+placed_at f j w l k {n = n} s el es r g none lt =
+    let o : outside l w.len s ≡ false = ap (outside l w.len) es ∙ none_at (passes (outside l w.len) (seg_at f j)) n k none lt in
     rw el (placed j.kind w s r g (rw el at o))
 
 -- at a segment that counts and at one that does not

@@ -101,8 +101,8 @@ tests f j w =
     (not (some f j (holds_entry j.entry)), NoEntry) ∷
     []
 
--- the refusal of the first test that holds, or none
-abbrev pub first_of : List (Bool × Refusal) → Result ⊤ Refusal
+-- what the first test that holds stands for, or none
+abbrev pub first_of : {R : Type 0} → List (Bool × R) → Result ⊤ R
 first_of [] = Ok tt
 first_of (t ∷ ts) = cond t.0 (Err t.1) (first_of ts)
 

@@ -33,7 +33,7 @@ use Rattle.load_plan.specs.Refusal.{number_of, reader_of}
 use Rattle.load_plan.specs.declared.refusal.Refusal.{Refusal}
 use Rattle.load_image.specs.Carry.{CarriedOut}
 use Rattle.load_image.specs.Image.{Outcome}
-use Rattle.walks.specs.Walk.{Kind, size_in, width_of, row_in, Wrote}
+use Rattle.walks.specs.Walk.{Kind, Walked}
 use Rattle.loadplan.specs.declared.Planned.{Planned}
 
 -- ---- entries
@@ -69,12 +69,12 @@ find_in t syms strs name k = k >>= λ k. find_of k.class k.order t syms strs nam
 
 -- ---- walks
 
-abbrev pub WroteTold : (Class → ℕ) → ℕ → (Class → Order → List ℕ → ℕ → List ℕ) → List ℕ → ℕ → List ℕ → List ℕ → ℕ → Result Ident Fault → Type 0
-WroteTold size width row t i old new r (Err f) = (r ≡ 0) × (new ≡ old)
-WroteTold size width row t i old new r (Ok k) = Wrote size width row k.class k.order t i old new r
+abbrev pub WroteTold : (Class → Order → Type 0) → List ℕ → List ℕ → ℕ → Result Ident Fault → Type 0
+WroteTold wrote old new r (Err f) = (r ≡ 0) × (new ≡ old)
+WroteTold wrote old new r (Ok k) = wrote k.class k.order
 
 abbrev pub WalkTold : Kind → List ℕ → ℕ → List ℕ → List ℕ → ℕ → Result Ident Fault → Type 0
-WalkTold k t i old new r id = WroteTold (size_in k) (width_of k) (row_in k) t i old new r id
+WalkTold k t i old new r id = WroteTold (λ c e. Walked k c e t i old new r) old new r id
 
 -- ---- the load plan
 

@@ -18,6 +18,7 @@ ghost use Rattle.common.specs.Common.{common_of};
 ghost use Rattle.hash.specs.Sysv.{sysv_hash};
 ghost use Rattle.load_plan.specs.Plan.{window_of};
 ghost use Rattle.walks.specs.Walk as kinds;
+ghost use Rattle.walks.specs.Walk.{Wrote};
 ghost use Rattle.replies.specs.Reply.{Told, range_row, table_row, symbols_row, pair_row, found_row, head_row, opening_of, opened_row, common_row};
 ghost use Rattle.loadplan.specs.Export.{entry_from, head_in, find_in, section_in, segment_in, symbol_in, rel_in, rela_in, dyn_in, WroteTold, WalkTold, planned_of, PlanTold, CarryTold, LoadTold};
 
@@ -257,7 +258,7 @@ fn walk<const N: usize, E: Row<N>>(
     from: usize,
     out: &mut [u64],
 ) -> usize
-    ensures { WroteTold E.size N (λ c e t o. E.values (E.at c e t o)) table.now from out.old out.new result (said class order) }
+    ensures { WroteTold (λ c e. Wrote E.size N (λ c e t o. E.values (E.at c e t o)) c e table.now from out.old out.new result) out.old out.new result (said class order) }
 {
     match Ident::said(class, order) {
         Err(_) => 0,

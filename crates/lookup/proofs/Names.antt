@@ -1,12 +1,12 @@
 -- The laws of `text_named`: what a look at the string table, and at the name itself, tell of it; and the table of names lies in the file.
 -- Assumes nothing.
-use Rattle.std.proofs.Common.{◌≡◌, ℕ, ◌*◌, ◌-◌, ◌≤◌, Bool, true, false, ◌&&◌, cond, List, length, eqb, Option, Some, None, is_ok, Result, Ok, Err, refl, arith}
+use Rattle.std.proofs.Common.{◌≡◌, ℕ, ◌*◌, ◌-◌, ◌≤◌, Bool, true, false, ◌&&◌, cond, List, length, eqb, ltb, Option, Some, None, is_ok, Result, Ok, Err, refl, arith}
 use mathlib.Core.Bool.{and-false}
 use Rattle.std.specs.Prelude.{⊤}
 use Rattle.endian.specs.Number.{number_at}
 use Rattle.endian.specs.Range.{◌>>=◌}
 use Rattle.endian.specs.declared.fault.Fault.{Fault}
-use Rattle.endian.specs.declared.fault.Fault.TheVariants.{NotUtf8}
+use Rattle.endian.specs.declared.fault.Fault.TheVariants.{BadOffset, NoZeroByte, NotUtf8}
 use Rattle.endian.specs.declared.Order.{Order}
 use Rattle.parse.specs.Entry.{range_at}
 use Rattle.parse.specs.declared.Range.{Range}
@@ -14,7 +14,7 @@ use Rattle.parse.proofs.Laws.{first_never, range_inside}
 use Rattle.string_table.specs.Text.{text_fault, text_at, same_bytes, is_clean, ends_of}
 use Rattle.string_table.specs.Utf8.{well_formed, utf8_fault}
 use Rattle.string_table.specs.Noted.{Notes, noted, span_of}
-use Rattle.string_table.proofs.Laws.{same_known, unclean_other, there_below, there_last}
+use Rattle.string_table.proofs.Laws.{same_known, unclean_other, none_behind, there_below, there_last}
 use Rattle.string_table.proofs.Notes.{noting_true}
 use Rattle.elf_bytes.specs.Open.{Tabled}
 use Rattle.elf_bytes.specs.declared.Elf.{Elf}
@@ -59,6 +59,19 @@ none_unclean e t size s name h =
 pub none_other : (e : Order) (t : List ℕ) (size : ℕ) (s name : List ℕ) → well_formed name ≡ false → first_named e t size s name ≡ None
 unfolding first_named named
 none_other e t size s name w = first_never _ _ _ (λ i. other s (number_at e 4 t (i * size)) name w)
+
+-- where no byte of the table is zero there is no string
+nowhere : (s : List ℕ) (o : ℕ) (name : List ℕ) → ends_of s ≡ 0 → text_named s o name ≡ false
+nowhere s o name z = pick (eqb (length s) 0) (ltb (length s) o) (none_behind s o (omega (arith, z)))
+  where
+    pick : (a b : Bool) → text_fault s o ≡ cond a (Err BadOffset) (cond b (Err BadOffset) (Err NoZeroByte)) → text_named s o name ≡ false
+    pick true b q = named_beyond s o name BadOffset q
+    pick false true q = named_beyond s o name BadOffset q
+    pick false false q = named_beyond s o name NoZeroByte q
+
+pub none_nowhere : (e : Order) (t : List ℕ) (size : ℕ) (s name : List ℕ) → ends_of s ≡ 0 → first_named e t size s name ≡ None
+unfolding first_named named
+none_nowhere e t size s name z = first_never _ _ _ (λ i. nowhere s (number_at e 4 t (i * size)) name z)
 
 -- what is noted of the names stays true when the string at an offset is compared
 pub stays_noted : (s name marks : List ℕ) (o : ℕ) → text_fault s o ≡ Ok tt → is_clean name ≡ true → Notes s name marks → Notes s name (noted s name o marks)

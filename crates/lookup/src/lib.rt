@@ -89,20 +89,19 @@ fn search(order: Order, t: &[u8], size: usize, strings: &Strings, name: &CleanNa
 }
 
 // Only strings that are UTF-8 are compared, and no string holds a zero byte, so a name that is not UTF-8 or holds one is nobody's.
-// Both are found out here, once for all sections.
-#[tactic(auto, using(crate::proofs::Names::none_unclean, crate::proofs::Names::none_other))]
+// Both are found out here, once for all sections; and before them whether there is any string: where there is none, neither the name
+// nor a section is looked at.
+#[tactic(auto, using(crate::proofs::Names::none_nowhere, crate::proofs::Names::none_unclean, crate::proofs::Names::none_other))]
 fn first_named(order: Order, t: &[u8], size: usize, strs: &[u8], name: &[u8]) -> Option<usize>
     requires { 4 ≤ size }
     ensures { result ≡ first_named order t.now size strs.now name.now }
 {
+    let strings = Strings::new(strs);
+    if strings.ends == 0 {
+        return None;
+    }
     match CleanName::new(name) {
-        Ok(clean) if string_table::is_utf8(name) => search(
-            order,
-            t,
-            size,
-            &Strings::new(strs),
-            &clean,
-        ),
+        Ok(clean) if string_table::is_utf8(name) => search(order, t, size, &strings, &clean),
         _ => None,
     }
 }
@@ -173,6 +172,8 @@ pub fn symbols_at(file: &ElfBytes, i: usize) -> Result<SymbolTable, Fault>
 }
 
 #[tactic(auto, unfolding(crate::specs::Lookup::symbol_table_in))]
+// Not in line, so that what opening leaves on the stack and what reading headers needs there are not added up.
+#[inline(never)]
 fn symbol_table_in(file: &ElfBytes, kind: u32) -> Result<Option<SymbolTable>, Fault>
     ensures { result ≡ symbol_table_in file.now.bytes.now file.now.elf kind }
 {

@@ -1,5 +1,6 @@
 // A run of bytes in memory: whether it fits, filled with zeros, filled from another run.
-// `fill` and `copy_from_slice` are what a compiler makes calls of memset and memmove.
+// A compiler makes a call of memset of `fill`, which is all that the archive asks of its host. Copying is a loop and not
+// `copy_from_slice`, which is a call of memmove: a host may have none, or one that goes a byte at a time.
 #![tactic(auto)]
 
 ghost use Rattle.std.specs.Prelude.{◌≡◌, ◌&&◌, ◌+◌, ◌-◌, length, replicate, leb};
@@ -28,5 +29,7 @@ pub fn copy(s: &mut [u8], from: &[u8])
     requires { length s.old ≡ length from.now }
     ensures { s.new ≡ from.now }
 {
-    s.copy_from_slice(from);
+    for i in 0..from.len() {
+        s[i] = from[i];
+    }
 }

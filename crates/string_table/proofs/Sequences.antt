@@ -1,15 +1,15 @@
 -- The laws of `follows` and `step_of`: well-formed UTF-8, a byte at a time.
 -- Assumes nothing.
-use Prim.Native.Nat.{ℕ, zero, suc, ◌-◌}
+use Prim.Native.Nat.{ℕ, zero, suc, ◌-◌, ◌≤◌}
 use native.Mathlib.Omega.{arith}
 use mathlib.Core.Path.{◌≡◌, refl, sym}
 use mathlib.Core.Bool.{Bool, true, false, cond, ◌&&◌}
 use mathlib.Core.List.{List, [], ◌∷◌}
 use lib.ListN.{replicate}
 use lib.Dec.{leb, eqb}
-use borrow.Author.Tests.{leb-true, ne_eqb}
+use borrow.Author.Tests.{leb-true, le-leb, ne_eqb}
 use Rattle.std.proofs.Common.{◌++◌, append_assoc, append-nil, ◌∙◌}
-use Rattle.string_table.specs.Utf8.{Span, span, within, tail, never, follows, well_formed, step_of, pending, awaited}
+use Rattle.string_table.specs.Utf8.{Span, span, within, tail, never, row_of, follows, well_formed, step_of, pending, awaited}
 use Rattle.string_table.specs.declared.Awaited.{Awaited}
 
 -- nothing follows a byte that starts no sequence
@@ -45,6 +45,11 @@ awaited_some a n = pick a.more n
     pick : (m : ℕ) → (m ≡ 0 → ⊥) → pending m a.low a.high ≡ span a.low a.high ∷ replicate (m - 1) tail
     pick zero h = absurd (h refl)
     pick (suc m) h = let e : suc m - 1 ≡ m = omega arith in rw e
+
+-- an ASCII byte where nothing is awaited changes nothing
+pub ascii_kept : (a : Awaited) (b : ℕ) → a.more ≡ 0 → b ≤ 0x7f → awaited a ≡ step_of (awaited a) b
+unfolding step_of row_of
+ascii_kept a b p q = rw (awaited_none a p, le-leb 0 b (omega arith), le-leb b 0x7f q)
 
 -- at the end of the bytes nothing may be awaited
 pub follows_end : (a : Awaited) → eqb a.more 0 ≡ follows (awaited a) []

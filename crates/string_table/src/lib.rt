@@ -278,12 +278,14 @@ fn start(b: u8) -> Awaited
     }
 }
 
-// What must follow a byte, when `a` was awaited.
-#[tactic(auto, unfolding(crate::specs::Utf8::step_of), using(std::proofs::lemmas::Bool::Decides::nat_tests, crate::proofs::Sequences::awaited_none, crate::proofs::Sequences::awaited_some))]
+// What must follow a byte, when `a` was awaited. Most bytes are ASCII and follow such: then nothing changes, which is told first.
+#[tactic(auto, unfolding(crate::specs::Utf8::step_of), using(std::proofs::lemmas::Bool::Decides::nat_tests, crate::proofs::Sequences::ascii_kept, crate::proofs::Sequences::awaited_none, crate::proofs::Sequences::awaited_some))]
 fn next(a: Awaited, b: u8) -> Awaited
     ensures { awaited result ≡ step_of (awaited a) b }
 {
-    if a.more == 0 {
+    if a.more == 0 && b <= 0x7f {
+        a
+    } else if a.more == 0 {
         start(b)
     } else if (a.low <= b) & (b <= a.high) {
         awaits(a.more - 1, 0x80, 0xbf)

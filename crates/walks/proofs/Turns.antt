@@ -3,7 +3,7 @@
 -- Assumes nothing.
 use Prim.Native.Nat.{ℕ, zero, suc, ◌+◌, ◌*◌, ◌≤◌, ◌<◌}
 use native.Mathlib.Numerals.{add-one}
-use native.Mathlib.Nat.{suc-mul, zero-mul, div-le_self}
+use native.Mathlib.Nat.{suc-mul, zero-mul, div-le_self, le-div_iff_mul-le}
 use native.Mathlib.Omega.{arith}
 use mathlib.Core.Path.{◌≡◌, sym, ap, ap₂, ◌∙◌}
 use mathlib.Core.List.{List, ◌++◌}
@@ -46,3 +46,7 @@ batch_row size len i width room k p h = inside width room k p (omega arith)
 pub batch_number : (size len i width room k : ℕ) → k < batch_of size len i width room → i + k < len
 unfolding batch_of
 batch_number size len i width room k h = omega (arith, div-le_self len size)
+
+pub batch_rows : (size len i width room n : ℕ) → 0 < width → n ≤ batch_of size len i width room → n * width ≤ room
+unfolding batch_of
+batch_rows size len i width room n p h = (le-div_iff_mul-le {k = width} {x = n} {y = room} p).0 (omega arith)

@@ -1,15 +1,15 @@
 -- `common::gather` meets its contract: each counted section is read in the table, and a fault stays the answer.
 -- Assumes nothing.
-use Rattle.std.proofs.Common.{◌≡◌, ◌+◌, ◌-◌, ◌*◌, ◌<◌, ◌≤◌, ◌^◌, suc, length, Result, Ok, Err, refl, sym, ◌∙◌, add-one, arith, rules}
+use Rattle.std.proofs.Common.{◌≡◌, ◌+◌, ◌-◌, ◌*◌, ◌<◌, ◌≤◌, suc, length, Err, refl, sym, ◌∙◌, add-one, arith, rules}
 use Rattle.endian.specs.Place.{size_of, section_header}
 use Rattle.parse.specs.Entry.{count_of}
 use Rattle.endian.specs.declared.fault.Fault.{Fault}
 use Rattle.elf_bytes.proofs.Laws.{tabled_at}
 use Rattle.common.specs.Common.{below_of, sections_of}
 use Rattle.common.proofs.Laws.{below_next, below_refused}
-use Rattle.common.proofs.Turn.{entry_inside, entry_wide, no_sections, all_sections, adds_nothing}
+use Rattle.common.proofs.Turn.{entry_inside, entry_wide, no_sections, all_sections, turn_told, adds_nothing}
 use Rattle.common.proofs.gather.Goals as goal
-use Rattle.common.proofs.gather.Goals.{After-count-i-end, In-loop-i, then-adds+in_ok-c, else-adds}
+use Rattle.common.proofs.gather.Goals.{After-count-i-end, In-loop-i, then-adds+in_ok-add, else-adds}
 
 pub returns-in_default : goal.returns-in_default
 returns-in_default c = sym (no_sections _ _ c.in_default.is)
@@ -51,11 +51,22 @@ refused_after c f t e =
     let m : n ≡ suc i + (n - suc i) = omega (arith, c.loop-i-test.true) in
     rw (t, m) (below_refused _ _ f (suc i) (n - suc i) e)
 
-pub returns-in_err-c : goal.returns-in_err-c
-returns-in_err-c c =
-    let e : c.from_residual.result ≡ Err c.in_err-c.field-0.0 = search rules in
-    let s : c.step.result ≡ Err c.in_err-c.field-0.0 = search rules in
-    e ∙ sym (refused_after (goal.at.returns-in_err-c c).In-loop-i _ (total (goal.at.returns-in_err-c c).After-count-i-end) (below_next _ _ c.loop-i.c c.loop-i.i c.loop-i.invariant ∙ sym c.step.ensures ∙ s))
+pub overflow_mul-i-then-adds : goal.overflow_mul-i-then-adds
+overflow_mul-i-then-adds c = omega (arith, lies (goal.at.overflow_mul-i-then-adds c).In-loop-i)
+
+pub entry_in-x-requires : goal.entry_in-x-requires
+entry_in-x-requires c = lies (goal.at.entry_in-x-requires c).In-loop-i
+
+pub returns-in_err-add : goal.returns-in_err-add
+returns-in_err-add c =
+    let e : c.from_residual.result ≡ Err c.in_err-add.field-0.0 = search rules in
+    let s : c.add.result ≡ Err c.in_err-add.field-0.0 = search rules in
+    e ∙ sym (refused_after (goal.at.returns-in_err-add c).In-loop-i _ (total (goal.at.returns-in_err-add c).After-count-i-end)
+    (below_next _ _ c.loop-i.c c.loop-i.i c.loop-i.invariant
+    ∙ turn_told c.args.file.now.bytes.now c.args.file.now.elf c.in-Some.r c.part-headers.result.now c.in-Some.is c.part-headers.ensures c.loop-i.i
+    (omega arith) (counted (goal.at.returns-in_err-add c).In-loop-i) c.loop-i.c c.add.new.c c.read-kind.result c.entry_in-x.result c.add.result
+    (rw c.size_of-size.ensures at c.read-kind.ensures) (rw c.size_of-size.ensures at c.entry_in-x.ensures) c.add.ensures
+    ∙ rw s))
 
 pub loop-i-preserved : goal.loop-i-preserved
 loop-i-preserved c =
@@ -63,7 +74,13 @@ loop-i-preserved c =
     rw add-one
     (n ∙
     elim c.if-adds.branch [
-      | then-adds+in_ok-c w ↦ rw w.c-is (sym w.step.ensures ∙ w.in_ok-c.was)
+      | then-adds+in_ok-add w ↦
+          rw w.c-is
+          (turn_told c.args.file.now.bytes.now c.args.file.now.elf c.in-Some.r c.part-headers.result.now c.in-Some.is c.part-headers.ensures c.loop-i.i
+          (omega arith) (counted (goal.at.loop-i-preserved c).In-loop-i) c.loop-i.c w.add.new.c c.read-kind.result w.entry_in-x.result w.add.result
+          (rw c.size_of-size.ensures at c.read-kind.ensures) (rw c.size_of-size.ensures at w.entry_in-x.ensures) w.add.ensures
+          ∙ rw w.in_ok-add.was
+          )
       | else-adds w ↦
           rw w.c-is
           (adds_nothing c.args.file.now.bytes.now c.args.file.now.elf c.in-Some.r c.part-headers.result.now c.in-Some.is c.part-headers.ensures c.loop-i.i

@@ -33,5 +33,5 @@ returns c =
     record {
       answers = rw (eq-eqb _ _ c.if-m-w.false) p.answers;
       table_is = p.table;
-      memory_is = done a.f.now a.w a.table.now _ _ p a.m.now _ c.if-m-w.false (rw c.in_ok-carry_out.was at c.carry_out.ensures);
+      memory_is = done a.f.now a.w a.table.now _ _ p a.m.now _ _ c.if-m-w.false (rw c.in_ok-carry_out.was at c.carry_out.ensures);
     }
