@@ -121,7 +121,7 @@ uint32_t loadplan_string(const uint8_t *table, size_t table_len, size_t offset, 
 uint32_t loadplan_string_utf8(const uint8_t *table, size_t table_len, size_t offset, uint64_t out[2]);
 
 /* The SysV hash table. _header: bucket count, chain count. _find: the first symbol with that name in the chain of its
- * bucket; out: there, its number; some 1.2 KiB of stack. */
+ * bucket; out: there, its number; some 1.3 KiB of stack. */
 uint32_t loadplan_sysv_hash(const uint8_t *name, size_t name_len);
 uint32_t loadplan_hash_header(uint8_t order, const uint8_t *table, size_t table_len, uint64_t out[2]);
 uint32_t loadplan_hash_find(uint8_t class_, uint8_t order, const uint8_t *table, size_t table_len, const uint8_t *symbols, size_t symbols_len,
