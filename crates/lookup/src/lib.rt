@@ -171,9 +171,9 @@ pub fn symbols_at(file: &ElfBytes, i: usize) -> Result<SymbolTable, Fault>
     contents::symbols_in(file, Asked::from(x))
 }
 
-#[tactic(auto, unfolding(crate::specs::Lookup::symbol_table_in))]
 // Not in line, so that what opening leaves on the stack and what reading headers needs there are not added up.
 #[inline(never)]
+#[tactic(auto, unfolding(crate::specs::Lookup::symbol_table_in))]
 fn symbol_table_in(file: &ElfBytes, kind: u32) -> Result<Option<SymbolTable>, Fault>
     ensures { result ≡ symbol_table_in file.now.bytes.now file.now.elf kind }
 {

@@ -9,8 +9,9 @@ use std::process::Command;
 
 use common::{archive_folder, repository, tool, Folder};
 
-/// The functions that the archive may ask of its host.
-const OF_THE_HOST: [&str; 4] = ["memcmp", "memcpy", "memmove", "memset"];
+/// The functions that the archive asks of its host. README and header leave room for memcpy, memmove and memcmp, for another compiler;
+/// a host may bring no more than this one, so a further name that comes in by the code is told here.
+const OF_THE_HOST: [&str; 1] = ["memset"];
 
 /// The names of kind `kinds` in what nm says.
 fn symbols(listing: &str, kinds: &str) -> Vec<String> {
@@ -22,7 +23,7 @@ fn symbols(listing: &str, kinds: &str) -> Vec<String> {
 }
 
 #[test]
-fn the_archive_needs_four_functions_at_most() {
+fn the_archive_needs_memset_alone() {
     let listing = tool("nm", [archive_folder().join("libloadplan.a")]);
     let defined = symbols(&listing, "TW");
     let needed: Vec<String> = symbols(&listing, "U").into_iter().filter(|name| !defined.contains(name)).collect();
